@@ -1,0 +1,11 @@
+ghost use Prim.Native.Nat.{_+_, _<_, _^_};
+
+/// A capture of a logic analyser: its first sample, how many samples it has, and the levels of the lines.
+/// No capture reaches past sample 2^32 − 1, so one outside that bound cannot be made.
+#[derive(Clone, Copy, PartialEq, Eq, Debug)]
+pub struct Capture {
+    pub first: u32,
+    pub samples: u16,
+    pub levels: u16,
+    ghost bound: { first + samples < 2 ^ 32 },
+}

@@ -1,0 +1,5 @@
+//! Kinds of reading: what a channel of the hub can hold.
+pub mod capture;
+pub mod capture_kind;
+pub mod kind;
+pub mod tally;
