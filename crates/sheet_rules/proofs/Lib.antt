@@ -1,0 +1,4 @@
+pub mod Packing
+pub mod Reading
+pub mod Headers
+pub mod Entries

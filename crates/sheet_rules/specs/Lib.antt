@@ -1,0 +1,4 @@
+pub mod Bits
+pub mod Contents
+pub mod Formats
+pub mod Sheets
