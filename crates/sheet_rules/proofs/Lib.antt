@@ -2,3 +2,5 @@ pub mod Packing
 pub mod Reading
 pub mod Headers
 pub mod Entries
+pub mod Fill
+pub mod Meaning

@@ -3,10 +3,11 @@ use mathlib.Core.Path.{_≡_}
 use mathlib.Core.Bool.{Bool, true, false, cond, not, _&&_}
 use mathlib.Core.List.{List, [], _∷_, _++_}
 use Prim.Native.Nat.{ℕ, zero, suc, _+_, _^_, _<_}
-use lib.Dec.{leb, eqb}
+use lib.Dec.{leb, ltb, eqb}
 use lib.ListN.{length, drop}
 use Rattle.std.specs.declared.option.Option.{Option}
 use Rattle.std.specs.declared.option.Option.the-variants.{Some, None}
+use Rattle.std.specs.shelf.Digits.{number}
 use Rattle.sheet_rules.specs.Bits.{packed, fieldIn}
 use Rattle.sheet_rules.specs.Contents.{Header, Entry, amendment, picture, turn, release, look, Fault, faultAt}
 
@@ -90,6 +91,10 @@ abbrev pub readAs : {A : Type 0} → Format A → List ℕ → ℕ → Read A
 readAs (gives a) bits k = got a bits k
 readAs (field w wrong n f) bits k =
     fieldOr (fieldIn bits w) k (λ v. cond (wrong v) (fails (faultAt n k)) (readAs (f v) (drop w bits) (k + w)))
+
+-- after the end code: fewer than eight bits, all zero
+abbrev pub onlyFill : List ℕ → Bool
+onlyFill bits = ltb (length bits) 8 && eqb (number 2 bits) 0
 
 -- the first field that fails: cut short, or with a wrong value, or a later one
 pub data Fails {A : Type 0} : Format A → List ℕ → ℕ → Fault → Type 0 where
