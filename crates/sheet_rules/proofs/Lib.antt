@@ -4,3 +4,4 @@ pub mod Headers
 pub mod Entries
 pub mod Fill
 pub mod Meaning
+pub mod Bytes
