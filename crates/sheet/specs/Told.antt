@@ -1,7 +1,7 @@
 -- What the reader's answers tell, in the words of the law of sheets.
+use mathlib.Core.Bool.{Bool}
 use mathlib.Core.List.{List, map}
 use Prim.Native.Nat.{ℕ}
-use Rattle.std.specs.Options as O
 use Rattle.std.specs.Of.Vec.{vec-items}
 use Rattle.std.specs.declared.option.Option.{Option}
 use Rattle.std.specs.declared.option.Option.the-variants.{Some, None}
@@ -11,7 +11,7 @@ use Rattle.plan.specs.Refusals.{refusalNumber}
 use Rattle.plan.specs.declared.check.ShelfType.{ShelfType}
 use Rattle.plan.specs.declared.check.ShelfType.the-variants.{Flag, Block}
 use Rattle.sheet_rules.specs.Contents as S
-use Rattle.sheet_rules.specs.Formats.{Read, got, fails}
+use Rattle.sheet_rules.specs.Formats.{Format, gives, field, Read, got, fails}
 use Rattle.sheet.specs.Left.{channelsOf}
 use Rattle.sheet.specs.declared.words.Kind.{Kind}
 use Rattle.sheet.specs.declared.words.Kind.the-variants.{Tally, Capture}
@@ -65,3 +65,7 @@ contentsTold c = record {
 abbrev pub readTold : {A B : Type 0} → (A → B) → Result A Fault → List ℕ → ℕ → Read B
 readTold t (Ok a) rest k = got (t a) rest k
 readTold t (Err f) rest k = fails (faultTold f)
+
+-- one field alone
+abbrev pub one : ℕ → (ℕ → Bool) → ℕ → Format ℕ
+one w wrong n = field w wrong n gives

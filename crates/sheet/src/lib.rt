@@ -1,5 +1,7 @@
 //! Run sheets: packed scripts of hub calls, and the reader that decodes them.
 pub mod bit_reader;
-pub mod bits;
+mod bits;
 pub mod channel_list;
+mod header;
+mod record;
 pub mod words;
