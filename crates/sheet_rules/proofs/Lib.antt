@@ -5,3 +5,4 @@ pub mod Entries
 pub mod Fill
 pub mod Meaning
 pub mod Bytes
+pub mod Following

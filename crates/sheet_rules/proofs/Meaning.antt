@@ -17,7 +17,7 @@ use Rattle.std.proofs.shelf.Tests.{cond-true, cond-false, lt-ltb, le-ltb, cases
 use Rattle.sheet_rules.specs.Bits.{packed}
 use Rattle.sheet_rules.specs.Contents.{Header, Entry, amendment, picture, turn, release, look, Fault, faultAt, Contents, nothingBut, readTo}
 use Rattle.sheet_rules.specs.Formats.{Read, got, fails, readAs, headerFormat, entryFormat, onlyFill}
-use Rattle.sheet_rules.specs.Sheets.{Field, fieldOf, packedAll, headerFields, entryFields, HeaderFits, EntryFits, front, endCode, Filled, mostBits, IsSheet, Says, too-long, header-fails, entry-fails, runs-on, whole, OneMeaning}
+use Rattle.sheet_rules.specs.Sheets.{Field, fieldOf, packedAll, headerFields, entryFields, HeaderFits, EntryFits, packedEntries, endCode, Filled, mostBits, IsSheet, Ends, entry-fails, runs-on, ends, Says, too-long, header-fails, goes-on, ReadRight, OneMeaning}
 use Rattle.sheet_rules.proofs.Packing.{length-packed}
 use Rattle.sheet_rules.proofs.Reading.{fails-read, got-read}
 use Rattle.sheet_rules.proofs.Headers.{Headed, header-got}
@@ -47,9 +47,6 @@ fromHeader n (got h rest k) = readTo h (tailFrom n rest k .entries) (tailFrom n 
 abbrev contentsIn : List ℕ → Contents
 contentsIn bits = cond (ltb mostBits (length bits)) (nothingBut (faultAt 24 0)) (fromHeader (suc (length bits)) (readAs headerFormat bits 0))
 
-abbrev packedEntries : List Entry → List ℕ
-packedEntries es = joined (λ e. packedAll (entryFields e)) es
-
 abbrev prepend : List Entry → Tail → Tail
 prepend es t = record { entries = es ++ t .entries; fault = t .fault }
 
@@ -77,7 +74,7 @@ walk (x ∷ es) rest k n m u e =
 first-bits : (w v : ℕ) (fs : List Field) → 1 ≤ w → 1 ≤ length (packedAll (fieldOf w v ∷ fs))
 first-bits w v fs h = omega (arith, length-append (packed w v) (packedAll fs), length-packed w v)
 
-some-bits : (e : Entry) → 1 ≤ length (packedAll (entryFields e))
+pub some-bits : (e : Entry) → 1 ≤ length (packedAll (entryFields e))
 some-bits (amendment p c w) = first-bits 3 1 (drop 1 (entryFields (amendment p c w))) (omega arith)
 some-bits (picture p cs) = first-bits 3 2 (drop 1 (entryFields (picture p cs))) (omega arith)
 some-bits (turn p) = first-bits 3 3 (drop 1 (entryFields (turn p))) (omega arith)
@@ -91,42 +88,69 @@ few (e ∷ es) = omega (arith, length-append (packedAll (entryFields e)) (packed
 abbrev withTail : Header → List Entry → Tail → Contents
 withTail h es t = readTo h (es ++ t .entries) (t .fault)
 
--- after a header and entries, reading goes on with the rest
-goes-on : (bits : List ℕ) (h : Header) (es : List Entry) (rest : List ℕ)
-    → length bits ≤ mostBits → HeaderFits h → All EntryFits es → bits ≡ front h es ++ rest
-    → (n : ℕ) × (contentsIn bits ≡ withTail h es (goOn (readAs entryFormat rest (length (front h es))) (tailFrom n)))
-goes-on bits h es rest s f u e =
-    let head : List ℕ = packedAll (headerFields h) in
-    let more : List ℕ = packedEntries es ++ rest in
-    let packs : bits ≡ head ++ more = e ∙ append-assoc head (packedEntries es) rest in
-    let r = got-read headerFormat bits 0 h more (header-got bits h more (record { fits = f; packs = packs })) in
-    let long : 0 + length bits ≡ r .0 + length more = r .2 in
-    let place : r .0 + length (packedEntries es) ≡ length (front h es) =
-        omega (arith, ap length packs, length-append head more, length-append head (packedEntries es)) in
-    let n : ℕ = length bits - length es in
-    let fuel : suc (length bits) ≡ length es + suc n =
-        omega (arith, ap length packs, length-append head more, length-append (packedEntries es) rest, few es) in
-    (n,
-     cond-false _ (nothingBut (faultAt 24 0)) (fromHeader (suc (length bits)) (readAs headerFormat bits 0)) (le-ltb mostBits (length bits) s)
-     ∙ (ap (fromHeader (suc (length bits))) (r .1)
-     ∙ (ap (withTail h []) (walk es rest (r .0) (suc n) (suc (length bits)) u fuel)
-     ∙ ap (λ (j : ℕ). withTail h es (tailFrom (suc n) rest j)) place)))
+module _ (bits : List ℕ) (h : Header) (es : List Entry) (s : length bits ≤ mostBits) (f : HeaderFits h) (u : All EntryFits es) where
+  abbrev behind : ℕ
+  behind = length (packedAll (headerFields h)) + length (packedEntries es)
 
--- the rest after the end code
-at-end : (bits : List ℕ) (h : Header) (es : List Entry) (rest : List ℕ) (b : Bool)
-    → length bits ≤ mostBits → HeaderFits h → All EntryFits es → bits ≡ front h es ++ (endCode ++ rest) → onlyFill rest ≡ b
-    → readTo h es (cond b None (Some (faultAt 23 (length (front h es) + 3)))) ≡ contentsIn bits
-at-end bits h es rest b s f u e o =
-    let k : ℕ = length (front h es) in
-    let g = goes-on bits h es (endCode ++ rest) s f u e in
-    let r = got-read entryFormat (endCode ++ rest) k None rest (entry-got (endCode ++ rest) None rest refl) in
-    let long : k + length (endCode ++ rest) ≡ r .0 + length rest = r .2 in
-    let place : r .0 ≡ k + 3 = omega (arith, length-append endCode rest, length-packed 3 0) in
-    sym (g .1
-     ∙ (ap (λ (y : Read (Option Entry)). withTail h es (goOn y (tailFrom (g .0)))) (r .1)
-     ∙ (ap (λ (xs : List Entry). readTo h xs (cond (onlyFill rest) None (Some (faultAt 23 (r .0))))) (append-nil es)
-     ∙ (ap (λ (x : Bool). readTo h es (cond x None (Some (faultAt 23 (r .0))))) o
-     ∙ ap (λ (j : ℕ). readTo h es (cond b None (Some (faultAt 23 j)))) place))))
+  -- after a header and entries, reading goes on with the rest
+  reading-goes-on : (rest : List ℕ) → bits ≡ packedAll (headerFields h) ++ (packedEntries es ++ rest)
+      → (n : ℕ) × (contentsIn bits ≡ withTail h es (goOn (readAs entryFormat rest behind) (tailFrom n)))
+  reading-goes-on rest packs =
+      let head : List ℕ = packedAll (headerFields h) in
+      let more : List ℕ = packedEntries es ++ rest in
+      let r = got-read headerFormat bits 0 h more (header-got bits h more (record { fits = f; packs = packs })) in
+      let long : 0 + length bits ≡ r .0 + length more = r .2 in
+      let place : r .0 + length (packedEntries es) ≡ behind = omega (arith, ap length packs, length-append head more) in
+      let n : ℕ = length bits - length es in
+      let fuel : suc (length bits) ≡ length es + suc n =
+          omega (arith, ap length packs, length-append head more, length-append (packedEntries es) rest, few es) in
+      (n,
+       cond-false _ (nothingBut (faultAt 24 0)) (fromHeader (suc (length bits)) (readAs headerFormat bits 0)) (le-ltb mostBits (length bits) s)
+       ∙ (ap (fromHeader (suc (length bits))) (r .1)
+       ∙ (ap (withTail h []) (walk es rest (r .0) (suc n) (suc (length bits)) u fuel)
+       ∙ ap (λ (j : ℕ). withTail h es (tailFrom (suc n) rest j)) place)))
+
+  -- the rest after the end code
+  at-end : (rest : List ℕ) (b : Bool) → bits ≡ packedAll (headerFields h) ++ (packedEntries es ++ (endCode ++ rest)) → onlyFill rest ≡ b
+      → readTo h es (cond b None (Some (faultAt 23 (behind + 3)))) ≡ contentsIn bits
+  at-end rest b e o =
+      let g = reading-goes-on (endCode ++ rest) e in
+      let r = got-read entryFormat (endCode ++ rest) behind None rest (entry-got (endCode ++ rest) None rest refl) in
+      let long : behind + length (endCode ++ rest) ≡ r .0 + length rest = r .2 in
+      let place : r .0 ≡ behind + 3 = omega (arith, length-append endCode rest, length-packed 3 0) in
+      sym (g .1
+       ∙ (ap (λ (y : Read (Option Entry)). withTail h es (goOn y (tailFrom (g .0)))) (r .1)
+       ∙ (ap (λ (xs : List Entry). readTo h xs (cond (onlyFill rest) None (Some (faultAt 23 (r .0))))) (append-nil es)
+       ∙ (ap (λ (x : Bool). readTo h es (cond x None (Some (faultAt 23 (r .0))))) o
+       ∙ ap (λ (j : ℕ). readTo h es (cond b None (Some (faultAt 23 j)))) place))))
+
+-- the rest of some bits are bits
+pub under-rest : (front rest : List ℕ) → Under 2 (front ++ rest) → Under 2 rest
+under-rest front rest u =
+    subst (λ (xs : List ℕ). Under 2 xs) (drop-at front rest (length front) refl) (all-drop (λ d. d < 2) (length front) (front ++ rest) u)
+
+pub not-fill : (rest : List ℕ) → Under 2 rest → (Filled rest → ⊥) → onlyFill rest ≡ false
+not-fill rest u no-fill = by-test (onlyFill rest) refl
+  where
+    by-test : (b : Bool) → onlyFill rest ≡ b → onlyFill rest ≡ false
+    by-test true t = absurd (no-fill (is-filled rest u t))
+    by-test false t = t
+
+-- behind the header
+said-behind : (bits : List ℕ) (h : Header) (rest : List ℕ) {es : List Entry} {f : Option Fault} → Under 2 bits → length bits ≤ mostBits → HeaderFits h
+    → bits ≡ packedAll (headerFields h) ++ rest → Ends rest (length (packedAll (headerFields h))) es f → readTo h es f ≡ contentsIn bits
+said-behind bits h rest u s hf e (entry-fails es more g ef q d) =
+    let r = reading-goes-on bits h es s hf ef more (e ∙ ap (λ (xs : List ℕ). packedAll (headerFields h) ++ xs) q) in
+    sym (r .1
+     ∙ (ap (λ (y : Read (Option Entry)). withTail h es (goOn y (tailFrom (r .0)))) (fails-read d)
+     ∙ ap (λ (xs : List Entry). readTo h xs (Some g)) (append-nil es)))
+said-behind bits h rest u s hf e (runs-on es more ef q no-fill) =
+    let under : Under 2 more =
+        under-rest endCode more (under-rest (packedEntries es) (endCode ++ more) (subst (λ (xs : List ℕ). Under 2 xs) q
+          (under-rest (packedAll (headerFields h)) rest (subst (λ (xs : List ℕ). Under 2 xs) e u)))) in
+    at-end bits h es s hf ef more false (e ∙ ap (λ (xs : List ℕ). packedAll (headerFields h) ++ xs) q) (not-fill more under no-fill)
+said-behind bits h rest u s hf e (ends es more ef q fill) =
+    at-end bits h es s hf ef more true (e ∙ ap (λ (xs : List ℕ). packedAll (headerFields h) ++ xs) q) (filled-is more fill)
 
 -- what some bits say is what reading from the front gives
 said : (bits : List ℕ) (c : Contents) → Under 2 bits → Says bits c → c ≡ contentsIn bits
@@ -135,21 +159,34 @@ said bits c u (too-long h) =
 said bits c u (header-fails f s d) =
     sym (cond-false _ (nothingBut (faultAt 24 0)) (fromHeader (suc (length bits)) (readAs headerFormat bits 0)) (le-ltb mostBits (length bits) s)
      ∙ ap (fromHeader (suc (length bits))) (fails-read d))
-said bits c u (entry-fails h es rest f s hf ef e d) =
-    let g = goes-on bits h es rest s hf ef e in
-    sym (g .1
-     ∙ (ap (λ (y : Read (Option Entry)). withTail h es (goOn y (tailFrom (g .0)))) (fails-read d)
-     ∙ ap (λ (xs : List Entry). readTo h xs (Some f)) (append-nil es)))
-said bits c u (runs-on h es rest s hf ef e no-fill) = at-end bits h es rest false s hf ef e (not-fill (onlyFill rest) refl)
-  where
-    under : Under 2 rest
-    under = subst (λ (xs : List ℕ). Under 2 xs) (drop-at (front h es ++ endCode) rest _ refl)
-        (all-drop (λ d. d < 2) (length (front h es ++ endCode)) ((front h es ++ endCode) ++ rest)
-          (subst (λ (xs : List ℕ). Under 2 xs) (e ∙ sym (append-assoc (front h es) endCode rest)) u))
-    not-fill : (b : Bool) → onlyFill rest ≡ b → onlyFill rest ≡ false
-    not-fill true t = absurd (no-fill (is-filled rest under t))
-    not-fill false t = t
-said bits c u (whole h es s) = at-end bits h es (s .fill) true (s .short) (s .header) (s .entries) (s .packs) (filled-is (s .fill) (s .filled))
+said bits c u (goes-on h es rest f s hf e d) = said-behind bits h rest u s hf e d
 
 pub one-meaning : OneMeaning
 one-meaning bits u c d p q = said bits c u p ∙ sym (said bits d u q)
+
+-- bits that say something without a fault are a sheet
+whole-behind : (bits : List ℕ) (h : Header) (rest : List ℕ) (k : ℕ) {es : List Entry} {f : Option Fault} → length bits ≤ mostBits → HeaderFits h
+    → bits ≡ packedAll (headerFields h) ++ rest → Ends rest k es f → f ≡ None → IsSheet bits h es
+whole-behind bits h rest k s hf e (entry-fails es more g ef q d) n = let z : _≡_ {A = ℕ} 0 1 = cc in absurd (omega arith)
+whole-behind bits h rest k s hf e (runs-on es more ef q no-fill) n = let z : _≡_ {A = ℕ} 0 1 = cc in absurd (omega arith)
+whole-behind bits h rest k s hf e (ends es more ef q fill) n =
+    record { short = s; header = hf; entries = ef; fill = more; filled = fill; packs = e ∙ ap (λ (xs : List ℕ). packedAll (headerFields h) ++ xs) q }
+
+whole-said : (bits : List ℕ) {c : Contents} → Says bits c → c .fault ≡ None → (h : Header) × (es : List Entry) × IsSheet bits h es × (c ≡ readTo h es None)
+whole-said bits (too-long l) n = let z : _≡_ {A = ℕ} 0 1 = cc in absurd (omega arith)
+whole-said bits (header-fails f s d) n = let z : _≡_ {A = ℕ} 0 1 = cc in absurd (omega arith)
+whole-said bits (goes-on h es rest f s hf e d) n =
+    (h, es, whole-behind bits h rest (length (packedAll (headerFields h))) s hf e d n, ap (readTo h es) n)
+
+-- a sheet says its header and entries
+sheet-says : (bits : List ℕ) (h : Header) (es : List Entry) → IsSheet bits h es → Says bits (readTo h es None)
+sheet-says bits h es t =
+    goes-on h es (packedEntries es ++ (endCode ++ t .fill)) None (t .short) (t .header) (t .packs) (ends es (t .fill) (t .entries) refl (t .filled))
+
+-- whoever gives what the bits say has read them right
+pub read-right : (bits : List ℕ) (c : Contents) → Under 2 bits → Says bits c → ReadRight bits c
+read-right bits c u t = record {
+  says = t;
+  only = λ d q. one-meaning bits u d c q t;
+  sheet-accepted = λ h es q. one-meaning bits u c (readTo h es None) t (sheet-says bits h es q);
+  accepted-sheet = whole-said bits t }

@@ -58,9 +58,9 @@ EntryFits (turn p) = p < 2 ^ 5
 EntryFits (release p) = p < 2 ^ 5
 EntryFits (look p i) = (p < 2 ^ 5) × (i < 2 ^ 3)
 
--- the packed header and the packed entries in order
-abbrev pub front : Header → List Entry → List ℕ
-front h es = packedAll (headerFields h) ++ joined (λ e. packedAll (entryFields e)) es
+-- the packed entries in order
+abbrev pub packedEntries : List Entry → List ℕ
+packedEntries es = joined (λ e. packedAll (entryFields e)) es
 
 abbrev pub endCode : List ℕ
 endCode = packed 3 0
@@ -73,26 +73,39 @@ Filled rest = (n : ℕ) × (n < 8) × (rest ≡ replicate n 0)
 abbrev pub mostBits : ℕ
 mostBits = 8 * 65536
 
--- these bits are the sheet of a header and entries: packed, with the end code and zero fill
+-- these bits are the sheet of a header and entries: packed header, packed entries in order, end code and zero fill
 pub record IsSheet (bits : List ℕ) (h : Header) (es : List Entry) : Type 0 where
   pub short : length bits ≤ mostBits
   pub header : HeaderFits h
   pub entries : All EntryFits es
   pub fill : List ℕ
   pub filled : Filled fill
-  pub packs : bits ≡ front h es ++ (endCode ++ fill)
+  pub packs : bits ≡ packedAll (headerFields h) ++ (packedEntries es ++ (endCode ++ fill))
 
--- what bits say: too much; a fault in the header; a fault in a record; more than fill after the end; or a whole sheet
+-- what the bits behind a header say, from a place on: entries, and then a field that fails, or the end code
+-- with more than fill behind it, or the end
+pub data Ends (bits : List ℕ) (k : ℕ) : List Entry → Option Fault → Type 0 where
+  entry-fails : (es : List Entry) (rest : List ℕ) (f : Fault) → All EntryFits es → bits ≡ packedEntries es ++ rest
+      → Fails entryFormat rest (k + length (packedEntries es)) f → Ends bits k es (Some f)
+  runs-on : (es : List Entry) (rest : List ℕ) → All EntryFits es → bits ≡ packedEntries es ++ (endCode ++ rest)
+      → (Filled rest → ⊥) → Ends bits k es (Some (faultAt 23 (k + length (packedEntries es) + 3)))
+  ends : (es : List Entry) (rest : List ℕ) → All EntryFits es → bits ≡ packedEntries es ++ (endCode ++ rest)
+      → Filled rest → Ends bits k es None
+
+-- what bits say: too much, or a fault in the header, or a header and what stands behind it
 pub data Says (bits : List ℕ) : Contents → Type 0 where
   too-long : mostBits < length bits → Says bits (nothingBut (faultAt 24 0))
   header-fails : (f : Fault) → length bits ≤ mostBits → Fails headerFormat bits 0 f → Says bits (nothingBut f)
-  entry-fails : (h : Header) (es : List Entry) (rest : List ℕ) (f : Fault)
-      → length bits ≤ mostBits → HeaderFits h → All EntryFits es → bits ≡ front h es ++ rest
-      → Fails entryFormat rest (length (front h es)) f → Says bits (readTo h es (Some f))
-  runs-on : (h : Header) (es : List Entry) (rest : List ℕ)
-      → length bits ≤ mostBits → HeaderFits h → All EntryFits es → bits ≡ front h es ++ (endCode ++ rest)
-      → (Filled rest → ⊥) → Says bits (readTo h es (Some (faultAt 23 (length (front h es) + 3))))
-  whole : (h : Header) (es : List Entry) → IsSheet bits h es → Says bits (readTo h es None)
+  goes-on : (h : Header) (es : List Entry) (rest : List ℕ) (f : Option Fault) → length bits ≤ mostBits → HeaderFits h
+      → bits ≡ packedAll (headerFields h) ++ rest → Ends rest (length (packedAll (headerFields h))) es f → Says bits (readTo h es f)
+
+-- what a reader owes: the contents that the bits say, which are the only ones;
+-- so it accepts the sheets, giving the header and the entries packed there, and nothing else
+pub record ReadRight (bits : List ℕ) (c : Contents) : Type 0 where
+  pub says : Says bits c
+  pub only : (d : Contents) → Says bits d → d ≡ c
+  pub sheet-accepted : (h : Header) (es : List Entry) → IsSheet bits h es → c ≡ readTo h es None
+  pub accepted-sheet : c .fault ≡ None → (h : Header) × (es : List Entry) × IsSheet bits h es × (c ≡ readTo h es None)
 
 -- bits say one thing at most
 abbrev pub OneMeaning : Type 0
