@@ -4,4 +4,5 @@ mod bits;
 pub mod channel_list;
 mod header;
 mod record;
+pub mod sheet;
 pub mod words;

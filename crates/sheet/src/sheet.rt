@@ -1,0 +1,68 @@
+ghost use mathlib.Core.Path.{_≡_};
+ghost use mathlib.Core.Bool.{cond};
+ghost use mathlib.Core.List.{[], map};
+ghost use Rattle.std.specs.Of.Vec.{vec-items};
+ghost use Rattle.std.specs.Vec.{made};
+ghost use Rattle.std.specs.declared.option.Option.the-variants.{Some, None};
+ghost use Rattle.sheet_rules.specs.Bits.{bitsOf};
+ghost use Rattle.sheet_rules.specs.Contents.{faultAt};
+ghost use Rattle.sheet_rules.specs.Formats.{onlyFill};
+ghost use Rattle.sheet_rules.specs.Sheets.{Ends, ReadRight};
+ghost use Rattle.sheet.specs.Left.{left};
+ghost use Rattle.sheet.specs.Told.{recordTold, faultTold, optionTold, contentsTold};
+use crate::bit_reader::BitReader;
+use crate::header::read_header;
+use crate::record::read_record;
+use crate::words::{Contents, Fault, Record};
+use plan::refusal::Refusal;
+use std::alloc::AllocError;
+use std::alloc::Global;
+
+// Behind the end code only zero bits may fill the byte.
+fn fault_after_end(bits: &BitReader) -> Option<Fault>
+    ensures { λ r. ⌜ optionTold faultTold r ≡ cond (onlyFill (left (now (bits .entry)))) None (Some (faultAt 23 (now (bits .entry) .at))) ⌝ }
+{
+    if bits.only_fill_left() {
+        return None;
+    }
+    Some(Fault::at(Refusal::NotEmptyAfterEnd, bits.place()))
+}
+
+// Records up to the end or the first fault, which is returned.
+fn read_records(bits: &mut BitReader, records: &mut Vec<Record>) -> Result<Option<Fault>, AllocError>
+    requires { ⌜ vec-items (now records) ≡ [] ⌝ }
+    ensures { λ r. ⌜ made r (λ f. Ends (left (now (bits .entry))) (now (bits .entry) .at) (map recordTold (vec-items (now (records .exit)))) (optionTold faultTold f)) ⌝ }
+{
+    loop {
+        match read_record(bits) {
+            Ok(next) => {
+                let Some(record) = next else {
+                    return Ok(fault_after_end(bits));
+                };
+                records.push(record)?;
+            }
+            Err(fault) => return Ok(Some(fault)),
+        }
+    }
+}
+
+/// What a run sheet says: its header and its records in order, up to the end or to the first field that fails.
+/// A sheet is accepted, with no fault, exactly if its bits are the packed header, the packed records, the end code
+/// and zero bits to fill the byte. Want of memory is the only other way out.
+pub fn read_sheet(heap: Global, bytes: &[u8]) -> Result<Contents, AllocError>
+    ensures { λ r. ⌜ made r (λ c. ReadRight (bitsOf (now (bytes .entry))) (contentsTold c)) ⌝ }
+{
+    let mut records = Vec::new(heap);
+    if bytes.len() > 65_536 {
+        let fault = Fault::at(Refusal::SheetTooLong, 0);
+        return Ok(Contents { header: None, records, fault: Some(fault) });
+    }
+    let mut bits = BitReader { bytes, at: 0 };
+    match read_header(&mut bits) {
+        Ok(header) => {
+            let fault = read_records(&mut bits, &mut records)?;
+            Ok(Contents { header: Some(header), records, fault })
+        }
+        Err(fault) => Ok(Contents { header: None, records, fault: Some(fault) }),
+    }
+}
