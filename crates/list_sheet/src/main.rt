@@ -1,0 +1,40 @@
+//! Prints in plain words what a run sheet on standard input says.
+use sheet::sheet::read_sheet;
+use sheet::text::{FaultDisplay, HeaderDisplay, RecordDisplay};
+use sheet::words::Contents;
+use std::error::AnyError;
+use std::io;
+use std::io::Read;
+
+// The header, a numbered line for each record, and how the reading ended.
+fn print_contents(rt: &LibcRuntime, contents: &Contents) -> io::Result<()> {
+    if let Some(header) = contents.header {
+        println!(rt, "{header}")?;
+    }
+    for (i, record) in contents.records.iter().enumerate() {
+        let number = i + 1;
+        println!(rt, "{number} {record}")?;
+    }
+    match contents.fault {
+        Some(fault) => println!(rt, "{fault}"),
+        None => println!(rt, "end"),
+    }
+}
+
+// The bytes of standard input, or one more than a sheet may have.
+fn read_input(rt: &LibcRuntime) -> io::Result<Vec<u8>> {
+    let mut bytes = Vec::new(rt.alloc());
+    rt.stdin().take(65_537).read_to_end(&mut bytes)?;
+    Ok(bytes)
+}
+
+fn run(rt: &LibcRuntime) -> Result<(), AnyError> {
+    let bytes = read_input(rt)?;
+    let contents = read_sheet(rt.alloc(), bytes.as_slice())?;
+    print_contents(rt, &contents)?;
+    Ok(())
+}
+
+fn main(rt: LibcRuntime) -> Result<(), AnyError> {
+    rt.report(run(&rt))
+}
