@@ -118,7 +118,8 @@ def code_sheets(rng):
 
 def every_length_sheets(rng):
     for _ in range(25):
-        whole = pack(header(rng) + "".join(record(rng, c) for c in rng.sample(range(1, 6), 5)) + END)
+        kinds = rng.sample(range(1, 6), 5)
+        whole = pack(header(rng) + "".join(record(rng, code) for code in kinds) + END)
         for length in range(len(whole) + 1):
             yield whole[:length]
 
