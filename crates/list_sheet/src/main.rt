@@ -1,21 +1,21 @@
 //! Prints in plain words what a run sheet on standard input says.
 use sheet::sheet::read_sheet;
 use sheet::text::{FaultDisplay, HeaderDisplay, RecordDisplay};
-use sheet::words::Contents;
+use sheet::words::{Record, Summary};
 use std::error::AnyError;
 use std::io;
 use std::io::Read;
 
 // The header, a numbered line for each record, and how the reading ended.
-fn print_contents(rt: &LibcRuntime, contents: &Contents) -> io::Result<()> {
-    if let Some(header) = contents.header {
+fn print_contents(rt: &LibcRuntime, summary: Summary, records: &[Record]) -> io::Result<()> {
+    if let Some(header) = summary.header {
         println!(rt, "{header}")?;
     }
-    for (i, record) in contents.records.iter().enumerate() {
+    for (i, record) in records.iter().enumerate() {
         let number = i + 1;
         println!(rt, "{number} {record}")?;
     }
-    match contents.fault {
+    match summary.fault {
         Some(fault) => println!(rt, "{fault}"),
         None => println!(rt, "end"),
     }
@@ -30,8 +30,9 @@ fn read_input(rt: &LibcRuntime) -> io::Result<Vec<u8>> {
 
 fn run(rt: &LibcRuntime) -> Result<(), AnyError> {
     let bytes = read_input(rt)?;
-    let contents = read_sheet(rt.alloc(), bytes.as_slice())?;
-    print_contents(rt, &contents)?;
+    let mut records = Vec::new(rt.alloc());
+    let summary = read_sheet(bytes.as_slice(), &mut records)?;
+    print_contents(rt, summary, records.as_slice())?;
     Ok(())
 }
 

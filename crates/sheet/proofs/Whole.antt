@@ -9,13 +9,13 @@ use Rattle.std.specs.declared.option.Option.{Option}
 use Rattle.std.specs.declared.option.Option.the-variants.{Some, None}
 use Rattle.std.specs.shelf.Digits.{Under}
 use Rattle.std.proofs.shelf.Elements.{all-drop}
-use Rattle.std.proofs.shelf.Lists.{map-push}
+use Rattle.std.proofs.shelf.Lists.{map-push, length-push, length-map, length-drop}
 use Rattle.sheet_rules.specs.Bits.{bitsOf}
 use Rattle.sheet_rules.specs.Contents.{Header, Entry, Fault, faultAt, Contents, nothingBut, readTo}
 use Rattle.sheet_rules.specs.Formats.{got, fails, readAs, headerFormat, entryFormat}
 use Rattle.sheet_rules.specs.Sheets.{Ends, too-long, ReadRight}
 use Rattle.sheet_rules.proofs.Bytes.{length-bits, under-bits}
-use Rattle.sheet_rules.proofs.Following.{Leads, leads-more, header-says, header-says-fault}
+use Rattle.sheet_rules.proofs.Following.{Leads, leads-few, leads-more, header-says, header-says-fault}
 use Rattle.sheet_rules.proofs.Meaning.{read-right}
 use Rattle.sheet.specs.Left.{left}
 use Rattle.sheet.specs.Told.{recordTold}
@@ -38,6 +38,14 @@ pub record-more : (bits : List ℕ) (k : ℕ) (rs : List Record) (rest : List �
 record-more bits k rs rest k′ x rs′ rest′ k″ so-far u e r =
     subst (λ (es : List Entry). Leads bits k es rest′ k″) (sym (ap (map recordTold) e ∙ map-push recordTold rs x))
       (leads-more bits k (map recordTold rs) rest k′ so-far u (recordTold x) rest′ k″ r)
+
+-- with one record more there are at most 65,536
+pub record-fits : (r : BitReader) (rs : List Record) (rest : List ℕ) (k′ : ℕ) (x : Record) (rest′ : List ℕ) (k″ : ℕ)
+    → Leads (left r) (r .at) (map recordTold rs) rest k′ → Under 2 rest → got (Some (recordTold x)) rest′ k″ ≡ readAs entryFormat rest k′ → length rs < 65536
+unfolding left
+record-fits r rs rest k′ x rest′ k″ so-far u e =
+    let more = leads-few (left r) (r .at) (map recordTold rs ++ (recordTold x ∷ [])) rest′ k″ (leads-more (left r) (r .at) (map recordTold rs) rest k′ so-far u (recordTold x) rest′ k″ e) in
+    omega (arith, more, length-push (map recordTold rs) (recordTold x), length-map rs recordTold, length-drop (r .at) (bitsOf (behind (r .bytes))), length-bits (behind (r .bytes)), r .short)
 
 module _ (bytes : List ℕ) where
   pub sheet-too-long : 65536 < length bytes → (c : Contents) → c ≡ nothingBut (faultAt 24 0) → ReadRight (bitsOf bytes) c

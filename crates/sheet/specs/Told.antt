@@ -2,7 +2,6 @@
 use mathlib.Core.Bool.{Bool}
 use mathlib.Core.List.{List, map}
 use Prim.Native.Nat.{ℕ}
-use Rattle.std.specs.Of.Vec.{vec-items}
 use Rattle.std.specs.declared.option.Option.{Option}
 use Rattle.std.specs.declared.option.Option.the-variants.{Some, None}
 use Rattle.std.specs.declared.result.Result.{Result}
@@ -21,7 +20,7 @@ use Rattle.sheet.specs.declared.words.Record.the-variants.{Amendment, Picture,
 use Rattle.sheet.specs.declared.words.Layer.{Layer}
 use Rattle.sheet.specs.declared.words.Layer.the-variants as L
 use Rattle.sheet.specs.declared.words.Fault.{Fault}
-use Rattle.sheet.specs.declared.words.Contents.{Contents}
+use Rattle.sheet.specs.declared.words.Summary.{Summary}
 
 -- the numbers of kinds and shelves in a header
 abbrev pub kindNumber : Kind → ℕ
@@ -57,9 +56,9 @@ abbrev pub optionTold : {A B : Type 0} → (A → B) → Option A → Option B
 optionTold t None = None
 optionTold t (Some a) = Some (t a)
 
-abbrev pub contentsTold : Contents → S.Contents
-contentsTold c = record {
-  header = optionTold headerTold (c .header); entries = map recordTold (vec-items (c .records)); fault = optionTold faultTold (c .fault) }
+-- what was read: the summary and the records beside it
+abbrev pub contentsTold : Summary → List Record → S.Contents
+contentsTold c rs = record { header = optionTold headerTold (c .header); entries = map recordTold rs; fault = optionTold faultTold (c .fault) }
 
 -- what a step of the reader returned, with the bits and the place where it left the reader
 abbrev pub readTold : {A B : Type 0} → (A → B) → Result A Fault → List ℕ → ℕ → Read B

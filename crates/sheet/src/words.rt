@@ -66,10 +66,10 @@ impl Fault {
     }
 }
 
-/// What could be read of a sheet; without a fault it is the whole of it.
-#[derive(Drop)]
-pub struct Contents {
+/// What the reading of a sheet came to, beside its records: the header if it was whole, and the fault that ended
+/// the reading early. Without a fault the sheet was read to its end.
+#[derive(Clone, Copy)]
+pub struct Summary {
     pub header: Option<Header>,
-    pub records: Vec<Record>,
     pub fault: Option<Fault>,
 }

@@ -2,7 +2,7 @@
 use mathlib.Core.Path.{_≡_, refl, sym, ap, _∙_, subst}
 use mathlib.Core.Bool.{Bool, true, false, cond}
 use mathlib.Core.List.{List, [], _∷_, _++_}
-use Prim.Native.Nat.{ℕ, _+_, _<_, _≤_}
+use Prim.Native.Nat.{ℕ, _+_, _*_, _<_, _≤_}
 use native.Mathlib.Omega.{arith}
 use lib.ListN.{length}
 use Rattle.std.specs.declared.option.Option.{Option}
@@ -20,7 +20,7 @@ use Rattle.sheet_rules.proofs.Reading.{read-got, read-place, read-under, read-
 use Rattle.sheet_rules.proofs.Headers.{got-header}
 use Rattle.sheet_rules.proofs.Entries.{Entered, got-entry}
 use Rattle.sheet_rules.proofs.Fill.{is-filled, filled-is}
-use Rattle.sheet_rules.proofs.Meaning.{some-bits}
+use Rattle.sheet_rules.proofs.Meaning.{eight-bits, few}
 use Rattle.sheet_rules.proofs.Packing.{length-packed}
 
 -- entries lead from some bits at a place to the bits left at another
@@ -31,6 +31,9 @@ pub record Leads (bits : List ℕ) (k : ℕ) (es : List Entry) (rest : List ℕ)
 
 pub leads-none : (bits : List ℕ) (k : ℕ) → Leads bits k [] bits k
 leads-none bits k = record { fit = tt; packs = refl; place = omega arith }
+
+pub leads-few : (bits : List ℕ) (k : ℕ) (es : List Entry) (rest : List ℕ) (k′ : ℕ) → Leads bits k es rest k′ → 8 * length es ≤ length bits
+leads-few bits k es rest k′ t = omega (arith, ap length (t .packs), length-append (packedEntries es) rest, few es)
 
 module _ (bits : List ℕ) (k : ℕ) (es : List Entry) (rest : List ℕ) (k′ : ℕ) (so-far : Leads bits k es rest k′) (u : Under 2 rest) where
   module _ (e : Entry) (rest′ : List ℕ) (k″ : ℕ) (r : got (Some e) rest′ k″ ≡ readAs entryFormat rest k′) where
@@ -49,7 +52,7 @@ module _ (bits : List ℕ) (k : ℕ) (es : List Entry) (rest : List ℕ) (k′ :
           place = omega (arith, so-far .place, ap length (entered .1), length-append one rest′, ap length more, length-append (packedEntries es) one) }
 
     pub fewer-left : length rest′ < length rest
-    fewer-left = omega (arith, ap length (entered .1), length-append (packedAll (entryFields e)) rest′, some-bits e)
+    fewer-left = omega (arith, ap length (entered .1), length-append (packedAll (entryFields e)) rest′, eight-bits e)
 
   pub leads-fails : (f : Fault) → fails f ≡ readAs entryFormat rest k′ → Ends bits k es (Some f)
   leads-fails f r =

@@ -70,20 +70,21 @@ walk (x ∷ es) rest k n m u e =
     ∙ (ap (λ (t : Tail). prepend (x ∷ []) t) (walk es rest (r .0) n (length es + n) (u .1) refl)
     ∙ ap (λ (j : ℕ). prepend (x ∷ es) (tailFrom n rest j)) place)))
 
--- every entry has bits
-first-bits : (w v : ℕ) (fs : List Field) → 1 ≤ w → 1 ≤ length (packedAll (fieldOf w v ∷ fs))
-first-bits w v fs h = omega (arith, length-append (packed w v) (packedAll fs), length-packed w v)
+-- every entry has a code and a party, eight bits
+two-fields : (v p : ℕ) (fs : List Field) → 8 ≤ length (packedAll (fieldOf 3 v ∷ fieldOf 5 p ∷ fs))
+two-fields v p fs =
+    omega (arith, length-append (packed 3 v) (packedAll (fieldOf 5 p ∷ fs)), length-packed 3 v, length-append (packed 5 p) (packedAll fs), length-packed 5 p)
 
-pub some-bits : (e : Entry) → 1 ≤ length (packedAll (entryFields e))
-some-bits (amendment p c w) = first-bits 3 1 (drop 1 (entryFields (amendment p c w))) (omega arith)
-some-bits (picture p cs) = first-bits 3 2 (drop 1 (entryFields (picture p cs))) (omega arith)
-some-bits (turn p) = first-bits 3 3 (drop 1 (entryFields (turn p))) (omega arith)
-some-bits (release p) = first-bits 3 4 (drop 1 (entryFields (release p))) (omega arith)
-some-bits (look p i) = first-bits 3 5 (drop 1 (entryFields (look p i))) (omega arith)
+pub eight-bits : (e : Entry) → 8 ≤ length (packedAll (entryFields e))
+eight-bits (amendment p c w) = two-fields 1 p (drop 2 (entryFields (amendment p c w)))
+eight-bits (picture p cs) = two-fields 2 p (drop 2 (entryFields (picture p cs)))
+eight-bits (turn p) = two-fields 3 p []
+eight-bits (release p) = two-fields 4 p []
+eight-bits (look p i) = two-fields 5 p (drop 2 (entryFields (look p i)))
 
-few : (es : List Entry) → length es ≤ length (packedEntries es)
+pub few : (es : List Entry) → 8 * length es ≤ length (packedEntries es)
 few [] = omega arith
-few (e ∷ es) = omega (arith, length-append (packedAll (entryFields e)) (packedEntries es), some-bits e, few es)
+few (e ∷ es) = omega (arith, length-append (packedAll (entryFields e)) (packedEntries es), eight-bits e, few es)
 
 abbrev withTail : Header → List Entry → Tail → Contents
 withTail h es t = readTo h (es ++ t .entries) (t .fault)

@@ -141,8 +141,9 @@ mod tests {
     ];
 
     fn check_case(rt: &LibcRuntime, case: &Case) -> Result<(), Fail> {
-        let contents = read_sheet(rt.alloc(), case.bytes)?;
-        match contents.fault {
+        let mut records = Vec::new(rt.alloc());
+        let summary = read_sheet(case.bytes, &mut records)?;
+        match summary.fault {
             Some(fault) => {
                 check_eq(fault.refusal.number(), case.number)?;
                 check_eq(fault.place, case.place)?;
@@ -176,14 +177,15 @@ mod tests {
 
     #[test]
     fn every_kind_of_record(rt: LibcRuntime) -> Result<(), Fail> {
-        let contents = read_sheet(rt.alloc(), &ALL_RECORDS)?;
-        check(contents.fault.is_none())?;
-        check_eq(contents.records.len(), 6)?;
-        for (record, line) in contents.records.iter().zip(LINES.iter()) {
+        let mut records = Vec::new(rt.alloc());
+        let summary = read_sheet(&ALL_RECORDS, &mut records)?;
+        check(summary.fault.is_none())?;
+        check_eq(records.len(), 6)?;
+        for (record, line) in records.iter().zip(LINES.iter()) {
             let text = format!(rt.alloc(), "{record}")?;
             check(text.as_str() == *line)?;
         }
-        let header = contents.header.ok_or("no header")?;
+        let header = summary.header.ok_or("no header")?;
         let text = format!(rt.alloc(), "{header}")?;
         check(text.as_str() == "sheet kind tally shelf block parties 2 links 1 channels 1")
     }
@@ -203,19 +205,21 @@ mod tests {
     fn longest_sheet(rt: LibcRuntime) -> Result<(), Fail> {
         let sheet = turns(&rt, 65_536)?;
         check_eq(sheet.len(), 65_536)?;
-        let contents = read_sheet(rt.alloc(), sheet.as_slice())?;
-        check(contents.fault.is_none())?;
-        check_eq(contents.records.len(), 65_532)
+        let mut records = Vec::new(rt.alloc());
+        let summary = read_sheet(sheet.as_slice(), &mut records)?;
+        check(summary.fault.is_none())?;
+        check_eq(records.len(), 65_532)
     }
 
     #[test]
     fn too_long_a_sheet(rt: LibcRuntime) -> Result<(), Fail> {
         let sheet = turns(&rt, 65_537)?;
         check_eq(sheet.len(), 65_537)?;
-        let contents = read_sheet(rt.alloc(), sheet.as_slice())?;
-        check(contents.header.is_none())?;
-        check_eq(contents.records.len(), 0)?;
-        let fault = contents.fault.ok_or("no fault")?;
+        let mut records = Vec::new(rt.alloc());
+        let summary = read_sheet(sheet.as_slice(), &mut records)?;
+        check(summary.header.is_none())?;
+        check_eq(records.len(), 0)?;
+        let fault = summary.fault.ok_or("no fault")?;
         check_eq(fault.refusal.number(), 24)?;
         check_eq(fault.place, 0)?;
         check_eq(fault.layer, Layer::Sheet)
