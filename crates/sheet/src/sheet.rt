@@ -20,6 +20,9 @@ use crate::words::{Fault, Record, Summary};
 use plan::refusal::Refusal;
 use std::alloc::AllocError;
 
+// No sheet has more bytes.
+const MOST_BYTES: usize = 65_536;
+
 // Behind the end code only zero bits may fill the byte.
 fn fault_after_end(bits: &BitReader) -> Option<Fault>
     ensures { λ r. ⌜ optionTold faultTold r ≡ cond (onlyFill (left (now (bits .entry)))) None (Some (faultAt 23 (now (bits .entry) .at))) ⌝ }
@@ -58,7 +61,7 @@ pub fn read_sheet(bytes: &[u8], records: &mut Vec<Record>) -> Result<Summary, Al
     ensures succeeds { λ r. ⌜ (65536 ≤ vec-cap (now (records .entry)) → isOk r ≡ true) ⌝ }
 {
     records.clear();
-    if bytes.len() > 65_536 {
+    if bytes.len() > MOST_BYTES {
         let fault = Fault::at(Refusal::SheetTooLong, 0);
         return Ok(Summary { header: None, fault: Some(fault) });
     }

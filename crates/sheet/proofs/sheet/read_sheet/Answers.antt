@@ -15,21 +15,21 @@ bare : (rs : List Record) (f g : Fault) → rs ≡ [] → f ≡ g → _≡_ {A =
 bare rs f g e d =
     ap (λ (xs : List Record). record { header = None; entries = map recordTold xs; fault = Some f }) e ∙ ap nothingBut d
 
-pub returns-then-bytes-gt65536 : need.returns-then-bytes-gt65536
-returns-then-bytes-gt65536 c = record {
+pub returns-then-bytes-gt-MOST-BYTES : need.returns-then-bytes-gt-MOST-BYTES
+returns-then-bytes-gt-MOST-BYTES c = record {
   succeeds = λ room. refl;
-  said = sheet-too-long (c .args .bytes .now) (c .if-bytes-gt65536 .taken) _ (bare (vec-items (c .clear .last .self)) _ _ (c .clear .ensures .items) (c .at-fault .ensures)) }
+  said = sheet-too-long (c .args .bytes .now) (c .if-bytes-gt-MOST-BYTES .taken) _ (bare (vec-items (c .clear .last .self)) _ _ (c .clear .ensures .items) (c .at-fault .ensures)) }
 
 pub returns-in-Continue-fault : need.returns-in-Continue-fault
 unfolding left
 returns-in-Continue-fault c = record {
   succeeds = λ room. refl;
-  said = sheet-headed (c .args .bytes .now) (c .if-bytes-gt65536 .left) (headerTold (c .in-Ok .header)) (left (c .read-header .last .bits)) (c .read-header .last .bits .at)
+  said = sheet-headed (c .args .bytes .now) (c .if-bytes-gt-MOST-BYTES .left) (headerTold (c .in-Ok .header)) (left (c .read-header .last .bits)) (c .read-header .last .bits .at)
     (map recordTold (vec-items (c .read-records .last .records))) (optionTold faultTold (c .in-Continue-fault .fault)) (c .in-Ok .ensures tt) (c .in-Continue-fault .ensures tt .said) }
 
 pub returns-in-Err : need.returns-in-Err
 unfolding left
 returns-in-Err c = record {
   succeeds = λ room. refl;
-  said = sheet-headless (c .args .bytes .now) (c .if-bytes-gt65536 .left) (faultTold (c .in-Err .fault)) (c .in-Err .ensures tt) _
+  said = sheet-headless (c .args .bytes .now) (c .if-bytes-gt-MOST-BYTES .left) (faultTold (c .in-Err .fault)) (c .in-Err .ensures tt) _
     (bare (vec-items (c .clear .last .self)) _ _ (c .clear .ensures .items) refl) }
