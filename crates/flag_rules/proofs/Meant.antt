@@ -1,6 +1,7 @@
 -- What each step of the flag shelf means.
 use mathlib.Core.Path.{_≡_, refl, sym, ap, _∙_, subst}
-use mathlib.Core.Bool.{Bool, true, false}
+use mathlib.Core.Bool.{Bool, true, false, not}
+use Rattle.shelf.specs.Calls.{isVacant}
 use mathlib.Core.List.{List, [], _∷_, map}
 use mathlib.Core.Logic.{_≢_}
 use Prim.Native.Nat.{ℕ, _+_, _≤_, _<_}
@@ -16,7 +17,7 @@ use Rattle.flag_rules.specs.declared.parts.Mark.{Mark}
 use Rattle.flag_rules.specs.declared.parts.Mark.the-variants.{Empty, Live, Broken}
 use Rattle.flag_rules.specs.declared.parts.Job.{Job}
 use Rattle.flag_rules.specs.declared.parts.Job.the-variants.{Idle, Taking, Putting, Checking}
-use Rattle.flag_rules.specs.Flags.{State, markAt, jobOf, withJob, startTake, dropped, breakMark, taken, putBy, turnBy, turned, putAnswer, checkAnswer, answerBy, answer, Full, MarkFits, JobFits, Sound}
+use Rattle.flag_rules.specs.Flags.{State, markAt, jobOf, withJob, startTake, dropped, breakMark, taken, putBy, turnBy, turned, putAnswer, checkAnswer, answerBy, answer, isFull, Full, MarkFits, JobFits, Sound}
 use Rattle.flag_rules.specs.Means.{linkOf, linksOf, activityIn, means}
 use Rattle.flag_rules.proofs.Lists.{getD-mapped, take-set-in, length-links, link-at, links-emptied, links-set, links-broken, check-is}
 use Rattle.flag_rules.proofs.Steps.{own-below}
@@ -45,6 +46,14 @@ module _ {R : Type 0} (d : R) (s : State R) where
 
   pub full-from : (j : ℕ) → linkAt (means d s) j ≢ vacant → Full (markAt s j)
   full-from j n = full-mark (markAt s j) _ (λ e. n (link-is j ∙ e))
+
+  full-link : (m : Mark) (x : R) → isFull m ≡ not (isVacant (linkOf m x))
+  full-link Empty x = refl
+  full-link (Live c) x = refl
+  full-link (Broken c) x = refl
+
+  pub is-full : (j : ℕ) → isFull (markAt s j) ≡ not (isVacant (linkAt (means d s) j))
+  is-full j = full-link (markAt s j) _ ∙ ap (λ (l : Link R). not (isVacant l)) (sym (link-is j))
 
   -- ** starting and dropping
 

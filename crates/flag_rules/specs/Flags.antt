@@ -1,13 +1,14 @@
 -- The exact rules of the flag shelf: channel c's reading in block c, that of link j in block C + j, and a mark for each link.
 -- Each operation comes into force and ends in one turn. A link is given by its number among the links of all parties.
 use mathlib.Core.Path.{_≡_}
-use mathlib.Core.Bool.{Bool, cond}
-use mathlib.Core.List.{List, [], _∷_, map}
+use mathlib.Core.Bool.{Bool, true, false, cond}
+use mathlib.Core.List.{List, [], _∷_, _++_, map}
 use mathlib.Core.Logic.{_≢_}
 use Prim.Native.Nat.{ℕ, _+_, _≤_, _<_}
 use lib.Dec.{eqb}
 use lib.ListN.{length, getD, set, replicate, drop}
-use Rattle.plan.specs.Plans.{width, need, Small}
+use Rattle.plan.specs.Plans.{width, need, planVerdict, Small}
+use Rattle.plan.specs.Refusals.{Outcome, accepted, refused}
 use Rattle.plan.specs.declared.check.Plan.{Plan}
 use Rattle.plan.specs.declared.check.ShelfType.the-variants.{Flag}
 use Rattle.shelf.specs.declared.answer.Answer.{Answer}
@@ -95,6 +96,11 @@ answer s p = answerBy s (jobOf s p)
 
 -- ** the states that a flag shelf can be in
 
+abbrev pub isFull : Mark → Bool
+isFull Empty = false
+isFull (Live c) = true
+isFull (Broken c) = true
+
 abbrev pub Full : Mark → Type 0
 Full Empty = ⊥
 Full (Live c) = Unit {0}
@@ -118,3 +124,20 @@ pub record Sound {R : Type 0} (s : State R) : Type 0 where
   pub jobs : length (s .jobs) ≡ s .plan .parties
   pub marks-fit : (j : ℕ) → j < width (s .plan) → MarkFits (s .plan .channels) (markAt s j)
   pub jobs-fit : (p : ℕ) → p < s .plan .parties → JobFits s p (jobOf s p)
+
+-- the state that a shelf's parts stand for
+abbrev pub stateOf : {R : Type 0} → Plan → List R → List Mark → List (Job R) → State R
+stateOf plan row marks jobs = record { plan = plan; row = row; marks = marks; jobs = jobs }
+
+-- ** the making
+
+abbrev pub noPlan : Plan
+noPlan = record { parties = 0; links = 0; channels = 0 }
+
+-- an accepted plan blanks the blocks of its need and no others; a refused one gives a shelf without parties or need, and touches no block
+abbrev pub madeBy : {R : Type 0} → R → List R → Outcome Plan → State R
+madeBy d row (accepted pl) = stateOf pl (replicate (need Flag pl) d ++ drop (need Flag pl) row) (replicate (width pl) Empty) (replicate (pl .parties) Idle)
+madeBy d row (refused n) = stateOf noPlan row [] []
+
+abbrev pub made : {R : Type 0} → R → Plan → List R → State R
+made d pl row = madeBy d row (planVerdict (pl .parties) (pl .links) (pl .channels) Flag (length row))
