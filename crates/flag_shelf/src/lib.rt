@@ -2,3 +2,4 @@
 mod calls;
 pub mod flag;
 pub mod flag_shelf;
+mod making;
