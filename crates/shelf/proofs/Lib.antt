@@ -1,3 +1,6 @@
 pub mod Passing
 pub mod After
 pub mod Ranges
+pub mod Did
+pub mod Moves
+pub mod Runs
