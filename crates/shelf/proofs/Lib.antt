@@ -4,3 +4,4 @@ pub mod Ranges
 pub mod Did
 pub mod Moves
 pub mod Runs
+pub mod Patience

@@ -18,6 +18,11 @@ getD-mapped f [] i d = refl
 getD-mapped f (x ∷ xs) zero d = refl
 getD-mapped f (x ∷ xs) (suc i) d = getD-mapped f xs i d
 
+-- a put's answer, by whether its link is live
+abbrev pub putVerdict : Bool → Answer
+putVerdict true = answers.Stored
+putVerdict false = answers.Missed
+
 module _ {R : Type 0} where
   pub waits-same : (o e : Operation R) → waits o ≡ waits e → o ≡ e
   waits-same o e q = cc
@@ -173,11 +178,6 @@ module _ {R : Type 0} where
     takes-link a m′ j c h (comes-and-ends o b e f) t =
         ap (λ (x : Operation R). getD (brought d m p x .links) j vacant) (waits-same o (take j c) (sym e ∙ t .waited))
         ∙ getD-set-same (m .links) j (holds c (getD (m .readings) c d) true) vacant h
-
-    -- a put's answer, by its link
-    abbrev pub putVerdict : Bool → Answer
-    putVerdict true = answers.Stored
-    putVerdict false = answers.Missed
 
     put-forced : (i : ℕ) (r : R) (c : ℕ) (x : R) (live : Bool) → linkAt m i ≡ holds c x live → activityOf (brought d m p (put i r)) p ≡ inForce (putVerdict live)
     put-forced i r c x live l = ap (λ (y : Link R). getD (putOn m p r y .activities) p idle) l ∙ by-live live

@@ -3,7 +3,7 @@ use mathlib.Core.Path.{_≡_, refl, sym, ap, _∙_, subst}
 use mathlib.Core.Bool.{Bool, true, false, not, cond}
 use mathlib.Core.List.{List, [], _∷_, _++_}
 use mathlib.Core.Logic.{_≢_, _⊎_, inl, inr, ⊎-elim}
-use Prim.Native.Nat.{ℕ, zero, suc, _+_, _*_, _≤_, _<_}
+use Prim.Native.Nat.{ℕ, zero, suc, _+_, _-_, _*_, _≤_, _<_}
 use native.Mathlib.Omega.{arith}
 use native.Mathlib.Nat.{mul-le-mul-right}
 use lib.Dec.{eqb}
@@ -233,6 +233,168 @@ module _ {R : Type 0} (rules : Rules R) where
     vacant-not : (c : ℕ) (x : R) (live : Bool) → vacant ≡ holds c x live → ⊥
     vacant-not c x live q = let z : _≡_ {A = ℕ} 0 1 = cc in omega arith
 
-    -- one call on
-    Onward : ℕ → ℕ → ℕ → R → Bool → Type 0
-    Onward u j c x live = (linkAt (rules .means (at (suc u))) j ≡ holds c x live) ⊎ (StoresAt rules start calls u c × (linkAt (rules .means (at (suc u))) j ≡ holds c x false))
+    -- one call on: a link that is held stays as it is, or a put on its channel breaks it
+    pub data Onward (u j c : ℕ) (x : R) (live : Bool) : Type 0 where
+      stays-so : linkAt (rules .means (at (suc u))) j ≡ holds c x live → Onward u j c x live
+      breaks : StoresAt rules start calls u c → linkAt (rules .means (at (suc u))) j ≡ holds c x false → Onward u j c x live
+
+    module _ (u j c : ℕ) (x : R) (live : Bool) (h : u < length calls) (l : linkAt (rules .means (at u)) j ≡ holds c x live) (full : linkAt (rules .means (at (suc u))) j ≢ vacant) where
+      abbrev k : Call R
+      k = callAt rules start calls u
+
+      -- the link in the meaning that the call leaves
+      went : (m′ : Meaning R) → rules .means (after rules (at u) k) ≡ m′ → linkAt (rules .means (at (suc u))) j ≡ linkAt m′ j
+      went m′ e = ap (λ (y : rules .State). linkAt (rules .means y) j) (next u h) ∙ ap (λ (y : Meaning R). linkAt y j) e
+
+      emptied : (i : ℕ) (acts : List (Activity R)) → rules .means (after rules (at u) k) ≡ record { readings = rules .means (at u) .readings; links = set (rules .means (at u) .links) i vacant; activities = acts } → Onward u j c x live
+      emptied i acts e = ⊎-elim
+          (λ (q : j ≡ i). absurd (full (went _ e ∙ (ap (λ (y : ℕ). getD (set (rules .means (at u) .links) i vacant) y vacant) q ∙ set-vacant (rules .means (at u) .links) i))))
+          (λ (n : j ≡ i → ⊥). stays-so (went _ e ∙ (getD-set-other (rules .means (at u) .links) i j vacant vacant n ∙ l))) (cases-eq j i)
+
+      stored-here : (p e : ℕ) → k ≡ Turn p → Stores (rules .means (at u)) (rules .means (at (suc u))) p e → linkAt (rules .means (at (suc u))) j ≡ breakOn e (linkAt (rules .means (at u)) j) → Onward u j c x live
+      stored-here p e is st f = ⊎-elim
+          (λ (q : c ≡ e). breaks (record { in-past = h; party = p; is-turn = is; stores = subst (λ (y : ℕ). Stores (rules .means (at u)) (rules .means (at (suc u))) p y) (sym q) st })
+              (f ∙ (ap (breakOn e) l ∙ (ap (λ (y : ℕ). breakOn y (holds c x live)) (sym q) ∙ break-here c x live))))
+          (λ (n : c ≡ e → ⊥). stays-so (f ∙ (ap (breakOn e) l ∙ break-there e c x live n))) (cases-eq c e)
+
+      turned-on : (p : ℕ) → k ≡ Turn p → p < rules .plan (at u) .parties → activityOf (rules .means (at u)) p ≢ idle → after rules (at u) k ≡ rules .turned (at u) p → Onward u j c x live
+      turned-on p is known n e =
+          let s : rules .State = at u in
+          let ok = good u .is-sound in
+          let long : p < length (rules .means s .activities) = omega (arith, known, rules .sizes s ok .activities) in
+          let t : Turned (rules .blank) (rules .means s) p (rules .answer s p) (rules .means (at (suc u))) =
+              subst (λ (y : rules .State). Turned (rules .blank) (rules .means s) p (rules .answer s p) (rules .means y)) (sym (next u h ∙ e)) (rules .turns s p ok known n .3) in
+          by-move long (turn-moves (rules .blank) (rules .means s) p long (rules .answer s p) (rules .means (at (suc u))) j t)
+        where
+          by-move : (long : p < length (rules .means (at u) .activities)) → Moved (rules .blank) (rules .means (at u)) p long (rules .means (at (suc u))) j → Onward u j c x live
+          by-move long (kept f) = stays-so (f ∙ l)
+          by-move long (broke e st f) = stored-here p e is st f
+          by-move long (came e w) = absurd (vacant-not c x live (sym (good u .is-tidy p j e w .2) ∙ l))
+
+      pub onward : Onward u j c x live
+      onward = by-did (did rules (at u) (good u .is-sound) k)
+        where
+          by-did : Did rules (at u) k → Onward u j c x live
+          by-did (nothing e) = stays-so (went _ (ap (rules .means) e) ∙ l)
+          by-did (starts-take p i e b) = emptied i _ (b .meant)
+          by-did (starts-put p i r b) = stays-so (went _ (b .meant) ∙ l)
+          by-did (starts-check p i b) = stays-so (went _ (b .meant) ∙ l)
+          by-did (drops p i b) = emptied i _ (b .meant)
+          by-did (turns p is known n e) = turned-on p is known n e
+
+    live-same : (c e : ℕ) (x y : R) (t u : Bool) → holds c x t ≡ holds e y u → t ≡ u
+    live-same c e x y t u q = cc
+
+    -- a held link since its take
+    since : (t p j c : ℕ) → ComesAt rules start calls t p (takeOp j c) → (n u : ℕ) → u ≡ suc t + n → u ≤ length calls → HeldSince rules start calls t u j → SinceTake rules start calls t u j c
+    since t p j c x zero u e h held =
+        let is : u ≡ suc t = omega arith in
+        record {
+          live = true;
+          shows = ap (λ (v : ℕ). linkAt (rules .means (at v)) j) is ∙ taken-link t p j c x;
+          live-if-none = λ none. refl;
+          none-if-live = λ q v a b s. absurd (let z : ⊥ = omega (arith, is) in z) }
+    since t p j c x (suc n) u e h held =
+        let v : ℕ = suc t + n in
+        let is : u ≡ suc v = omega arith in
+        let before = since t p j c x n v refl (omega arith) (λ w a b. held w a (omega arith)) in
+        let in-past : v < length calls = omega arith in
+        let full : linkAt (rules .means (at (suc v))) j ≢ vacant = λ z. held u (omega arith) (omega arith) (ap (λ (w : ℕ). linkAt (rules .means (at w)) j) is ∙ z) in
+        subst (λ (w : ℕ). SinceTake rules start calls t w j c) (sym is)
+          (further t v j c (omega arith) before (onward v j c (getD (rules .means (at t) .readings) c (rules .blank)) (before .live) in-past (before .shows) full))
+      where
+        further : (t v j c : ℕ) → t < v → (before : SinceTake rules start calls t v j c) → Onward v j c (getD (rules .means (at t) .readings) c (rules .blank)) (before .live) → SinceTake rules start calls t (suc v) j c
+        further t v j c a before (stays-so l) = record {
+          live = before .live;
+          shows = l;
+          live-if-none = λ none. before .live-if-none (λ w b d s. none w b (omega arith) s);
+          none-if-live = λ q w b d s. ⊎-elim
+              (λ (z : w ≡ v). both-ways (before .live)
+                (live-same c c _ _ (before .live) false (sym l ∙ (stored-link v c (subst (λ (y : ℕ). StoresAt rules start calls y c) z s) j ∙ (ap (breakOn c) (before .shows) ∙ break-here c _ (before .live))))) q)
+              (λ (z : w ≡ v → ⊥). before .none-if-live q w b (omega arith) s) (cases-eq w v) }
+        further t v j c a before (breaks s l) = record {
+          live = false;
+          shows = l;
+          live-if-none = λ none. absurd (none v a (omega arith) s);
+          none-if-live = λ q. absurd (both-ways false refl q) }
+
+    linked : (t u p j c : ℕ) → ComesAt rules start calls t p (takeOp j c) → t < u → u ≤ length calls → HeldSince rules start calls t u j → SinceTake rules start calls t u j c
+    linked t u p j c x a b held = since t p j c x (u - suc t) u (omega arith) b held
+
+    stored-live : (live : Bool) → putVerdict live ≡ answers.Stored → live ≡ true
+    stored-live true e = refl
+    stored-live false e = let z : _≡_ {A = ℕ} 0 1 = cc in absurd (omega arith)
+
+    put-law : (t u p q j c : ℕ) (r : R) (a : Answer) → ComesAt rules start calls t p (takeOp j c) → t < u → HeldSince rules start calls t u j → ComesAt rules start calls u q (put j r) → HasAnswer rules start calls u q a
+        → (NoneBetween rules start calls t u c → a ≡ answers.Stored) × (a ≡ answers.Stored → NoneBetween rules start calls t u c)
+    put-law t u p q j c r a x h held y w =
+        let k = linked t u p j c x h (omega (arith, y .in-past)) held in
+        let z = turns-at u q (put j r) (y .in-past) (y .is-turn) (y .comes .waited) in
+        let is : a ≡ putVerdict (k .live) =
+            put-answers (rules .blank) (rules .means (at u)) q (z .long) (rules .answer (at u) q) (rules .means (at (suc u))) j r c _ (k .live) (k .shows) (z .turned) (y .comes) a
+              (⊎-elim (λ (f : activityOf (rules .means (at (suc u))) q ≡ inForce a). inl f)
+                (λ (f : (activityOf (rules .means (at (suc u))) q ≡ idle) × (turnAnswer rules (at u) q ≡ accepted a)). inr (f .0, same-answer (rules .answer (at u) q) a (sym (z .answered) ∙ f .1))) w) in
+        (λ none. is ∙ ap putVerdict (k .live-if-none none), λ e. k .none-if-live (stored-live (k .live) (sym is ∙ e)))
+      where
+        same-answer : (a b : Answer) → accepted a ≡ accepted b → a ≡ b
+        same-answer a b e = cc
+
+    broken-law : (t v u p j c : ℕ) → ComesAt rules start calls t p (takeOp j c) → t < v → v < u → u ≤ length calls → StoresAt rules start calls v c → HeldSince rules start calls t u j
+        → (x : R) × (linkAt (rules .means (at u)) j ≡ holds c x false)
+    broken-law t v u p j c x a b h s held =
+        let k = linked t u p j c x (omega arith) h held in
+        by-live (k .live) (k .shows) (λ q. k .none-if-live q v a b s)
+      where
+        by-live : (live : Bool) → linkAt (rules .means (at u)) j ≡ holds c (getD (rules .means (at t) .readings) c (rules .blank)) live → (live ≡ true → ⊥) → (x : R) × (linkAt (rules .means (at u)) j ≡ holds c x false)
+        by-live true l n = absurd (n refl)
+        by-live false l n = (getD (rules .means (at t) .readings) c (rules .blank), l)
+
+    shown-broken : (c : ℕ) (l : Link R) → shownBy (breakOn c l) ≡ shownBy l
+    shown-broken c vacant = refl
+    shown-broken c (holds e x t) = refl
+
+    module _ (t p j : ℕ) (h : t < length calls) (own : Own (rules .plan start) p j) (other : callerOf (callAt rules start calls t) ≢ p) where
+      owned : Own (rules .plan (at t)) p j
+      owned = subst (λ (x : Plan). Own x p j) (sym (good t .same)) own
+
+      shown-in : (m′ : Meaning R) → rules .means (after rules (at t) (callAt rules start calls t)) ≡ m′ → shownBy (linkAt m′ j) ≡ shownBy (linkAt (rules .means (at t)) j)
+          → shownBy (linkAt (rules .means (at (suc t))) j) ≡ shownBy (linkAt (rules .means (at t)) j)
+      shown-in m′ e q = ap (λ (y : rules .State). shownBy (linkAt (rules .means y) j)) (next t h) ∙ (ap (λ (y : Meaning R). shownBy (linkAt y j)) e ∙ q)
+
+      -- another party's own link is not this one
+      elsewhere : (q i : ℕ) → callerOf (callAt rules start calls t) ≡ q → Own (rules .plan (at t)) q i → j ≡ i → ⊥
+      elsewhere q i e o z = own-apart (rules .plan (at t)) p q j owned (subst (λ (y : ℕ). Own (rules .plan (at t)) q y) (sym z) o) (λ w. other (e ∙ sym w))
+
+      emptied-elsewhere : (q i : ℕ) → callerOf (callAt rules start calls t) ≡ q → Own (rules .plan (at t)) q i → getD (set (rules .means (at t) .links) i vacant) j vacant ≡ linkAt (rules .means (at t)) j
+      emptied-elsewhere q i e o = getD-set-other (rules .means (at t) .links) i j vacant vacant (elsewhere q i e o)
+
+      turned-elsewhere : (q : ℕ) → callAt rules start calls t ≡ Turn q → q < rules .plan (at t) .parties → activityOf (rules .means (at t)) q ≢ idle
+          → shownBy (linkAt (rules .means (rules .turned (at t) q)) j) ≡ shownBy (linkAt (rules .means (at t)) j)
+      turned-elsewhere q is known n =
+          let ok = good t .is-sound in
+          let long : q < length (rules .means (at t) .activities) = omega (arith, known, rules .sizes (at t) ok .activities) in
+          by-move long (turn-moves (rules .blank) (rules .means (at t)) q long (rules .answer (at t) q) (rules .means (rules .turned (at t) q)) j (rules .turns (at t) q ok known n .3))
+        where
+          by-move : (long : q < length (rules .means (at t) .activities)) → Moved (rules .blank) (rules .means (at t)) q long (rules .means (rules .turned (at t) q)) j
+              → shownBy (linkAt (rules .means (rules .turned (at t) q)) j) ≡ shownBy (linkAt (rules .means (at t)) j)
+          by-move long (kept f) = ap shownBy f
+          by-move long (broke e st f) = ap shownBy f ∙ shown-broken e (linkAt (rules .means (at t)) j)
+          by-move long (came e w) = absurd (elsewhere q j (ap callerOf is) (good t .is-tidy q j e w .1) refl)
+
+      alone-law : shownBy (linkAt (rules .means (at (suc t))) j) ≡ shownBy (linkAt (rules .means (at t)) j)
+      alone-law = by-did (did rules (at t) (good t .is-sound) (callAt rules start calls t))
+        where
+          by-did : Did rules (at t) (callAt rules start calls t) → shownBy (linkAt (rules .means (at (suc t))) j) ≡ shownBy (linkAt (rules .means (at t)) j)
+          by-did (nothing e) = shown-in (rules .means (at t)) (ap (rules .means) e) refl
+          by-did (starts-take q i c b) = shown-in _ (b .meant) (ap shownBy (emptied-elsewhere q i (b .caller) (b .own)))
+          by-did (starts-put q i r b) = shown-in _ (b .meant) refl
+          by-did (starts-check q i b) = shown-in _ (b .meant) refl
+          by-did (drops q i b) = shown-in _ (b .meant) (ap shownBy (emptied-elsewhere q i (b .caller) (b .own)))
+          by-did (turns q is known n e) = shown-in _ (ap (rules .means) e) (turned-elsewhere q is known n)
+
+  pub ideal-links : IdealLinks rules
+  ideal-links s fresh calls = record {
+    links = linked s fresh calls;
+    puts = put-law s fresh calls;
+    broken = broken-law s fresh calls;
+    alone = alone-law s fresh calls }
