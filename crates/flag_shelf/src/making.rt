@@ -13,6 +13,7 @@ ghost use Rattle.shelf.specs.Rules.{Fresh};
 ghost use Rattle.flag_rules.specs.Flags.{made};
 ghost use Rattle.flag_rules.proofs.AsShelf.{flagRules};
 ghost use Rattle.flag_shelf.specs.States.{flagState};
+ghost use Rattle.flag_shelf.specs.Beyond.{BeyondStays};
 use crate::flag::FlagShelf;
 use flag_rules::parts::{Job, Mark};
 use plan::check::{check_plan, Plan, ShelfType};
@@ -64,5 +65,11 @@ impl<'a, R: Reading> FlagShelf<'a, R> {
                 Ok(FlagShelf { plan, row, marks: Vec::new(heap), jobs: Vec::new(heap) })
             }
         }
+    }
+
+    /// Does nothing; promises that whatever is called from now on, no block beyond the need is touched.
+    pub fn blocks_beyond_stay(&self)
+        ensures { λ _. ⌜ BeyondStays (R·Reading .kind .blank) (flagState (now (self .entry))) ⌝ }
+    {
     }
 }
