@@ -52,8 +52,8 @@ pub impl<'a, R: Reading> Shelf for FlagShelf<'a, R> as FlagShelfShelf {
     }
 
     fn drop_link(&mut self, party: u8, link: u8) -> Result<(), Refusal> {
-        let at = self.free_link(party, link)?;
-        self.marks[at] = Mark::Empty;
+        let which = self.free_link(party, link)?;
+        self.marks[which] = Mark::Empty;
         Ok(())
     }
 

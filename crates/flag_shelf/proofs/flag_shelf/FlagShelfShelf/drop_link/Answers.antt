@@ -20,11 +20,11 @@ index-mut-requires g c κs =
     let d = g .R·Reading .kind .blank in
     let v = c .args .self .now in
     let s = flagState v in
-    omega (arith, mark-there d v.plan _ (vec-items (v .marks)) (vec-items (v .jobs)) (v .sound) (c .args .party) (c .in-Continue-at .at) (party-in d v.plan _ (vec-items (v .marks)) (vec-items (v .jobs)) (v .sound) (c .args .party) (c .args .link) (c .in-Continue-at .at) [] (c .in-Continue-at .ensures tt .answer)) (link-own d v.plan _ (vec-items (v .marks)) (vec-items (v .jobs)) (v .sound) (c .args .party) (c .args .link) (c .in-Continue-at .at) [] (c .in-Continue-at .ensures tt .answer)), v .marks .ok .0)
+    omega (arith, mark-there d v.plan _ (vec-items (v .marks)) (vec-items (v .jobs)) (v .sound) (c .args .party) (c .in-Continue-which .which) (party-in d v.plan _ (vec-items (v .marks)) (vec-items (v .jobs)) (v .sound) (c .args .party) (c .args .link) (c .in-Continue-which .which) [] (c .in-Continue-which .ensures tt .answer)) (link-own d v.plan _ (vec-items (v .marks)) (vec-items (v .jobs)) (v .sound) (c .args .party) (c .args .link) (c .in-Continue-which .which) [] (c .in-Continue-which .ensures tt .answer)), v .marks .ok .0)
 
 pub ghost-self : need.ghost-self
 ghost-self g c =
     let d = g .R·Reading .kind .blank in
     let v = c .args .self .now in
     let s = flagState v in
-    (drop-kept d v.plan _ (vec-items (v .marks)) (vec-items (v .jobs)) (v .sound) (c .args .party) (c .args .link) (c .in-Continue-at .at) [] (c .in-Continue-at .ensures tt .answer), tt)
+    (drop-kept d v.plan _ (vec-items (v .marks)) (vec-items (v .jobs)) (v .sound) (c .args .party) (c .args .link) (c .in-Continue-which .which) [] (c .in-Continue-which .ensures tt .answer), tt)
