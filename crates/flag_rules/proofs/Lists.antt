@@ -12,12 +12,6 @@ use Rattle.flag_rules.specs.declared.parts.Mark.the-variants.{Empty, Live, Bro
 use Rattle.flag_rules.specs.Flags.{breakMark, Full, MarkFits, checkAnswer}
 use Rattle.flag_rules.specs.Means.{linkOf, linksOf}
 
--- an element of a mapped list, also past its end
-pub getD-mapped : {X Y : Type 0} (f : X → Y) (xs : List X) (i : ℕ) (d : X) → getD (map f xs) i (f d) ≡ f (getD xs i d)
-getD-mapped f [] i d = refl
-getD-mapped f (x ∷ xs) zero d = refl
-getD-mapped f (x ∷ xs) (suc i) d = getD-mapped f xs i d
-
 pub take-set-in : {X : Type 0} (n : ℕ) (xs : List X) (i : ℕ) (x : X) → take n (set xs i x) ≡ set (take n xs) i x
 take-set-in zero [] i x = refl
 take-set-in zero (y ∷ xs) zero x = refl

@@ -19,8 +19,8 @@ use Rattle.flag_rules.specs.declared.parts.Job.{Job}
 use Rattle.flag_rules.specs.declared.parts.Job.the-variants.{Idle, Taking, Putting, Checking}
 use Rattle.flag_rules.specs.Flags.{State, markAt, jobOf, withJob, startTake, dropped, breakMark, taken, putBy, turnBy, turned, putAnswer, checkAnswer, answerBy, answer, isFull, Full, MarkFits, JobFits, Sound}
 use Rattle.flag_rules.specs.Means.{linkOf, linksOf, activityIn, means}
-use Rattle.flag_rules.proofs.Lists.{getD-mapped, take-set-in, length-links, link-at, links-emptied, links-set, links-broken, check-is}
-use Rattle.flag_rules.proofs.Steps.{own-below}
+use Rattle.shelf.proofs.Basics.{getD-mapped, own-below}
+use Rattle.flag_rules.proofs.Lists.{take-set-in, length-links, link-at, links-emptied, links-set, links-broken, check-is}
 
 module _ {R : Type 0} (d : R) (s : State R) where
   -- a party's activity is that of its job, and a link that of its mark and block

@@ -5,11 +5,11 @@ use mathlib.Core.List.{List, [], _∷_, map}
 use mathlib.Core.Logic.{_≢_, _⊎_, inl, inr, ⊎-elim, ∥∥₁-elim}
 use Prim.Native.Nat.{ℕ, _+_, _*_, _≤_, _<_}
 use native.Mathlib.Omega.{arith}
-use native.Mathlib.Nat.{ℕ-set, mul-le-mul-right}
+use native.Mathlib.Nat.{ℕ-set}
 use native.Mathlib.Bridge.{le-prop}
 use lib.ListN.{length, getD, set}
 use Rattle.std.proofs.shelf.Lists.{length-set, length-map, getD-set-same, getD-set-other, set-getD}
-use Rattle.std.proofs.shelf.Tests.{cases-eq, cases-lt}
+use Rattle.std.proofs.shelf.Tests.{cases-eq}
 use Rattle.plan.specs.Plans.{width, need, Small}
 use Rattle.plan.specs.declared.check.Plan.{Plan}
 use Rattle.shelf.specs.Meaning.{Own}
@@ -18,20 +18,8 @@ use Rattle.flag_rules.specs.declared.parts.Mark.the-variants.{Empty, Live, Bro
 use Rattle.flag_rules.specs.declared.parts.Job.{Job}
 use Rattle.flag_rules.specs.declared.parts.Job.the-variants.{Idle, Taking, Putting, Checking}
 use Rattle.flag_rules.specs.Flags.{State, markAt, jobOf, withJob, startTake, startPut, startCheck, dropped, breakMark, taken, putBy, turnBy, turned, Full, MarkFits, JobFits, Sound}
-use Rattle.flag_rules.proofs.Lists.{getD-mapped, broken-full, broken-fits}
-
--- ** links of different parties
-
-pub own-apart : (pl : Plan) (p q j : ℕ) → Own pl p j → Own pl q j → p ≢ q → ⊥
-own-apart pl p q j a b ne =
-    ⊎-elim (λ (h : p < q). omega (arith, a .from, a .to, b .from, b .to, mul-le-mul-right (pl .links) h))
-      (λ (h : q ≤ p). omega (arith, a .from, a .to, b .from, b .to, mul-le-mul-right (pl .links) (apart h))) (cases-lt p q)
-  where
-    apart : q ≤ p → q < p
-    apart h = omega (arith, ne)
-
-pub own-below : (pl : Plan) (p j : ℕ) → p < pl .parties → Own pl p j → j < width pl
-own-below pl p j h a = omega (arith, a .from, a .to, mul-le-mul-right (pl .links) h)
+use Rattle.shelf.proofs.Basics.{getD-mapped, own-apart, own-below}
+use Rattle.flag_rules.proofs.Lists.{broken-full, broken-fits}
 
 -- ** the change of one party
 

@@ -26,7 +26,8 @@ use Rattle.flag_rules.specs.declared.parts.Job.the-variants.{Idle, Taking, Putt
 use Rattle.flag_rules.specs.Flags.{State, stateOf, markAt, jobOf, withJob, breakMark, taken, putBy, turnBy, turned, answerBy, Full, JobFits, Sound}
 use Rattle.flag_rules.specs.Means.{means, linkOf, activityIn}
 use Rattle.flag_rules.proofs.Meant.{activity-is, link-is, idle-from, full-from}
-use Rattle.flag_rules.proofs.Steps.{own-below, sound-out, sound-job, sound-take, sound-drop, sound-turn}
+use Rattle.shelf.proofs.Basics.{own-below}
+use Rattle.flag_rules.proofs.Steps.{sound-out, sound-job, sound-take, sound-drop, sound-turn}
 
 module _ {R : Type 0} (d : R) (pl : Plan) (row : List R) (marks : List Mark) (jobs : List (Job R)) (squashed : ∥ Sound (stateOf pl row marks jobs) ∥₁) where
   abbrev now : State R

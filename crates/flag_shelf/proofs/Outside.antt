@@ -22,7 +22,7 @@ use Rattle.flag_rules.specs.declared.parts.Job.{Job}
 use Rattle.flag_rules.specs.declared.parts.Job.the-variants.{Idle, Taking, Putting, Checking}
 use Rattle.flag_rules.specs.Flags.{State, markAt, jobOf, putBy, turnBy, turned, MarkFits, JobFits, Sound}
 use Rattle.flag_rules.specs.Means.{means}
-use Rattle.flag_rules.proofs.Steps.{own-below}
+use Rattle.shelf.proofs.Basics.{own-below}
 use Rattle.flag_rules.proofs.AsShelf.{flagRules}
 use Rattle.flag_shelf.specs.Beyond.{StayBeyond, BeyondStays}
 

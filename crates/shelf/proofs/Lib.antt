@@ -1,3 +1,4 @@
+pub mod Basics
 pub mod Passing
 pub mod After
 pub mod Ranges

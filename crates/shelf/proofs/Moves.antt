@@ -11,12 +11,8 @@ use Rattle.std.proofs.shelf.Lists.{length-set, getD-set-same, getD-set-other, g
 use Rattle.std.proofs.shelf.Tests.{cases-eq, cases-lt}
 use Rattle.shelf.specs.declared.answer.Answer.{Answer}
 use Rattle.shelf.specs.declared.answer.Answer.the-variants as answers
+use Rattle.shelf.proofs.Basics.{getD-mapped}
 use Rattle.shelf.specs.Meaning.{Link, vacant, holds, Operation, take, put, check, Activity, idle, waits, inForce, Meaning, linkAt, activityOf, does, linking, breakOn, putOn, verdict, brought, Turned, alters-nothing, comes, ends, comes-and-ends, Comes, Stores}
-
-pub getD-mapped : {X Y : Type 0} (f : X → Y) (xs : List X) (i : ℕ) (d : X) → getD (map f xs) i (f d) ≡ f (getD xs i d)
-getD-mapped f [] i d = refl
-getD-mapped f (x ∷ xs) zero d = refl
-getD-mapped f (x ∷ xs) (suc i) d = getD-mapped f xs i d
 
 -- a put's answer, by whether its link is live
 abbrev pub putVerdict : Bool → Answer

@@ -5,7 +5,6 @@ use mathlib.Core.List.{List, [], _∷_, _++_}
 use mathlib.Core.Logic.{_≢_, _⊎_, inl, inr, ⊎-elim}
 use Prim.Native.Nat.{ℕ, zero, suc, _+_, _-_, _*_, _≤_, _<_}
 use native.Mathlib.Omega.{arith}
-use native.Mathlib.Nat.{mul-le-mul-right}
 use lib.Dec.{eqb}
 use lib.ListN.{length, getD, set, take, replicate}
 use lib.Seq.{take-suc}
@@ -14,7 +13,6 @@ use Rattle.std.specs.declared.option.Option.the-variants.{Some, None}
 use Rattle.std.proofs.shelf.Lists.{getD-set-same, getD-set-other, getD-past, length-set}
 use Rattle.std.proofs.shelf.Tests.{cases-eq, cases-lt, lt-ltb, eq-eqb, ne-eqb, both-ways}
 use Rattle.plan.specs.Refusals.{accepted}
-use Rattle.plan.specs.Plans.{width}
 use Rattle.plan.specs.declared.check.Plan.{Plan}
 use Rattle.shelf.specs.declared.answer.Answer.{Answer}
 use Rattle.shelf.specs.declared.answer.Answer.the-variants as answers
@@ -24,20 +22,10 @@ use Rattle.shelf.specs.Calls.{Call, Turn, Look, isIdle, testsOf, leaves, after
 use Rattle.shelf.proofs.Passing.{Passed, passes}
 use Rattle.std.specs.shelf.Lists.{All}
 use Rattle.shelf.specs.Laws.{afterAll, callerOf, shownBy, stateAt, meaningAt, callAt, ComesAt, StoresAt, NoneBetween, HeldSince, SinceTake, HasAnswer, LinksIdeal, IdealLinks}
+use Rattle.shelf.proofs.Basics.{own-apart, own-below}
 use Rattle.shelf.proofs.After.{sound-after}
 use Rattle.shelf.proofs.Did.{Begins, Did, nothing, starts-take, starts-put, starts-check, drops, turns, did, same-plan}
 use Rattle.shelf.proofs.Moves.{Moved, kept, broke, came, turn-moves, turn-other, still-waits, stores-break, takes-link, put-answers, putVerdict}
-
-pub own-apart : (pl : Plan) (p q j : ℕ) → Own pl p j → Own pl q j → p ≢ q → ⊥
-own-apart pl p q j a b ne =
-    ⊎-elim (λ (h : p < q). omega (arith, a .from, a .to, b .from, b .to, mul-le-mul-right (pl .links) h))
-      (λ (h : q ≤ p). omega (arith, a .from, a .to, b .from, b .to, mul-le-mul-right (pl .links) (apart h))) (cases-lt p q)
-  where
-    apart : q ≤ p → q < p
-    apart h = omega (arith, ne)
-
-pub own-below : (pl : Plan) (p j : ℕ) → p < pl .parties → Own pl p j → j < width pl
-own-below pl p j h a = omega (arith, a .from, a .to, mul-le-mul-right (pl .links) h)
 
 module _ {R : Type 0} (rules : Rules R) where
   -- the link of a waiting take is the party's own, and empty
