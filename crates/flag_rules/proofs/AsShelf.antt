@@ -6,7 +6,8 @@ use Prim.Native.Nat.{ℕ, _+_, _≤_, _<_}
 use native.Mathlib.Omega.{arith}
 use lib.ListN.{length, getD, set, take, drop}
 use Rattle.std.proofs.shelf.Lists.{length-map, length-take-le, getD-set-same, getD-set-other}
-use Rattle.plan.specs.Plans.{need}
+use Rattle.plan.specs.Plans.{patience}
+use Rattle.plan.specs.declared.check.ShelfType.the-variants.{Flag}
 use Rattle.shelf.specs.Meaning.{Own, vacant, idle, Meaning, linkAt, activityOf, Sizes}
 use Rattle.shelf.specs.Rules.{Keeps, Rules}
 use Rattle.flag_rules.specs.declared.parts.Mark.{Mark}
@@ -85,7 +86,7 @@ module _ {R : Type 0} (d : R) where
     State = State R;
     blank = d;
     plan = λ s. s .plan;
-    patience = λ s. 0;
+    patience = λ s. patience Flag (s .plan);
     sound = Sound;
     means = means d;
     left = turnsLeft;

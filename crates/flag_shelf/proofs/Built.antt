@@ -50,6 +50,9 @@ module _ {R : Type 0} (d : R) (pl : Plan) (row : List R) where
       pub made-sound : (t : State R) → t ≡ made d pl row → ∥ Sound t ∥₁
       made-sound t q = ∣ subst Sound (sym q) (made-fresh d pl row given (checked e) .is-sound) ∣₁
 
+      pub not-refused : (n : ℕ) → refused n ≡ planVerdict (pl .parties) (pl .links) (pl .channels) Flag (length row) → ⊥
+      not-refused n q = let both : accepted given ≡ refused n = checked e ∙ sym q in let z : _≡_ {A = ℕ} 0 1 = cc in omega arith
+
     pub none-state : (n : ℕ) → refused n ≡ planVerdict (pl .parties) (pl .links) (pl .channels) Flag blocks
         → (marks : List Mark) (jobs : List (Job R)) → marks ≡ [] → jobs ≡ [] → stateOf noPlan row marks jobs ≡ made d pl row
     none-state n e marks jobs m j =

@@ -5,7 +5,9 @@ ghost use lib.ListN.{length, replicate, drop};
 ghost use denote.Ref.{name};
 ghost use Rattle.std.specs.Of.Vec.{vec-items};
 ghost use Rattle.std.specs.Vec.{made as built};
-ghost use Rattle.plan.specs.Refusals.{accepted};
+ghost use Rattle.std.specs.Results.{isOk};
+ghost use mathlib.Core.Bool.{true};
+ghost use Rattle.plan.specs.Refusals.{accepted, refused};
 ghost use Rattle.plan.specs.Plans.{planVerdict};
 ghost use Rattle.plan.specs.declared.check.Plan.{Plan as PlanIn};
 ghost use Rattle.plan.specs.declared.check.ShelfType.the-variants.{Flag};
@@ -47,10 +49,12 @@ fn blank_blocks<R: Reading>(row: &mut BlockRow<R>, n: usize)
 impl<'a, R: Reading> FlagShelf<'a, R> {
     /// A shelf of a plan, on a row of blocks. If the plan check accepts, the blocks of the need are blanked, and no
     /// others; if it refuses, the shelf has no parties and no need, and no block is touched. All memory is allocated
-    /// here; want of it leaves the blocks untouched.
+    /// here, before any block is touched; for a refused plan none is wanted.
     pub fn make(heap: Global, plan: Plan, row: BlockRow<'a, R>) -> Result<FlagShelf<'a, R>, AllocError>
         ensures state { λ r. ⌜ built r (λ s. flagState s ≡ made (R·Reading .kind .blank) plan (now (row .entry .blocks))) ⌝ }
         ensures fresh { λ r. ⌜ built r (λ s. (given : PlanIn) → accepted given ≡ planVerdict (plan .parties) (plan .links) (plan .channels) Flag (length (now (row .entry .blocks))) → Fresh (flagRules (R·Reading .kind .blank)) (flagState s)) ⌝ }
+        ensures lent { λ r. ⌜ built r (λ s. name (s .row .blocks) ≡ name (row .entry .blocks)) ⌝ }
+        ensures succeeds { λ r. ⌜ ((n : ℕ) → refused n ≡ planVerdict (plan .parties) (plan .links) (plan .channels) Flag (length (now (row .entry .blocks))) → isOk r ≡ true) ⌝ }
     {
         match check_plan(plan.parties, plan.links, plan.channels, ShelfType::Flag, row.len()) {
             Ok(plan) => {

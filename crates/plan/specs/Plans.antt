@@ -47,7 +47,7 @@ pub record InRange (p : Plan) : Type 0 where
   pub some-channels : 1 ≤ p .channels
   pub most-channels : p .channels ≤ 64
 
--- one that is in range or has nothing in it
+-- one in which no size is above its most
 pub record Small (p : Plan) : Type 0 where
   pub parties : p .parties ≤ 24
   pub links : p .links ≤ 4

@@ -19,6 +19,11 @@ abbrev pub putVerdict : Bool → Answer
 putVerdict true = answers.Stored
 putVerdict false = answers.Missed
 
+-- and a check's
+abbrev pub checkVerdict : Bool → Answer
+checkVerdict true = answers.Live
+checkVerdict false = answers.Broken
+
 module _ {R : Type 0} where
   pub waits-same : (o e : Operation R) → waits o ≡ waits e → o ≡ e
   waits-same o e q = cc
@@ -84,19 +89,24 @@ module _ {R : Type 0} where
     stored-acts : (r : R) (l : Link R) (c : ℕ) (x : R) → l ≡ holds c x true → putOn m p r l .activities ≡ set (m .activities) p (inForce answers.Stored)
     stored-acts r l c x e = ap (λ (y : Link R). putOn m p r y .activities) e
 
+    -- a put on a live link waits no more
+    brought-no-more : (i : ℕ) (r : R) (c : ℕ) (x : R) → linkAt m i ≡ holds c x true → activityOf (brought d m p (put i r)) p ≢ waits (put i r)
+    brought-no-more i r c x q z = waits-not-force (put i r) answers.Stored
+        (sym z ∙ (ap (λ (xs : List (Activity R)). getD xs p idle) (stored-acts r (linkAt m i) c x q) ∙ forced-at answers.Stored))
+
+    ended-no-more : (i : ℕ) (r : R) (c : ℕ) (x : R) → linkAt m i ≡ holds c x true → activityOf (does (brought d m p (put i r)) p idle) p ≢ waits (put i r)
+    ended-no-more i r c x q z = waits-not-idle (put i r)
+        (sym z ∙ (ap (λ (xs : List (Activity R)). getD (set xs p idle) p idle) (stored-acts r (linkAt m i) c x q)
+        ∙ getD-set-same (set (m .activities) p (inForce answers.Stored)) p idle idle (omega (arith, length-set (m .activities) p (inForce answers.Stored)))))
+
     brought-moves : (j : ℕ) (o : Operation R) → activityOf m p ≡ waits o → Moved (brought d m p o) j
     brought-moves j (take i c) e = take-moves (brought d m p (take i c)) j i c e refl
-    brought-moves j (put i r) e = put-moves (brought d m p (put i r)) j i r e (linkAt m i) refl refl
-        (λ c x q z. waits-not-force (put i r) answers.Stored
-          (sym z ∙ (ap (λ (xs : List (Activity R)). getD xs p idle) (stored-acts r (linkAt m i) c x q) ∙ forced-at answers.Stored)))
+    brought-moves j (put i r) e = put-moves (brought d m p (put i r)) j i r e (linkAt m i) refl refl (brought-no-more i r)
     brought-moves j (check i) e = kept refl
 
     ended-moves : (j : ℕ) (o : Operation R) (a : Answer) → activityOf m p ≡ waits o → activityOf (brought d m p o) p ≡ inForce a → Moved (does (brought d m p o) p idle) j
     ended-moves j (take i c) a e f = take-moves (does (brought d m p (take i c)) p idle) j i c e refl
-    ended-moves j (put i r) a e f = put-moves (does (brought d m p (put i r)) p idle) j i r e (linkAt m i) refl refl
-        (λ c x q z. waits-not-idle (put i r)
-          (sym z ∙ (ap (λ (xs : List (Activity R)). getD (set xs p idle) p idle) (stored-acts r (linkAt m i) c x q)
-          ∙ getD-set-same (set (m .activities) p (inForce answers.Stored)) p idle idle (omega (arith, length-set (m .activities) p (inForce answers.Stored))))))
+    ended-moves j (put i r) a e f = put-moves (does (brought d m p (put i r)) p idle) j i r e (linkAt m i) refl refl (ended-no-more i r)
     ended-moves j (check i) a e f = kept refl
 
     pub turn-moves : (a : Answer) (m′ : Meaning R) (j : ℕ) → Turned d m p a m′ → Moved m′ j
@@ -163,6 +173,20 @@ module _ {R : Type 0} where
         ap (λ (x : Operation R). getD (brought d m p x .links) j vacant) (waits-same o (put (s .link) (s .reading)) (sym e ∙ s .comes .waited))
         ∙ stored-links c (s .seen) (s .link) (s .reading) (s .alive) j
 
+    -- and the channel reads what the put gave
+    stored-readings : (c : ℕ) (seen : R) (i : ℕ) (r : R) → linkAt m i ≡ holds c seen true → c < length (m .readings) → getD (brought d m p (put i r) .readings) c d ≡ r
+    stored-readings c seen i r l h = ap (λ (x : Link R). getD (putOn m p r x .readings) c d) l ∙ getD-set-same (m .readings) c r d h
+
+    pub stores-reading : (a : Answer) (m′ : Meaning R) (c : ℕ) → Turned d m p a m′ → (s : Stores m m′ p c) → c < length (m .readings) → getD (m′ .readings) c d ≡ s .reading
+    stores-reading a m′ c alters-nothing s h = absurd (s .comes .waits-no-more (s .comes .waited))
+    stores-reading a m′ c (comes o e) s h =
+        ap (λ (x : Operation R). getD (brought d m p x .readings) c d) (waits-same o (put (s .link) (s .reading)) (sym e ∙ s .comes .waited))
+        ∙ stored-readings c (s .seen) (s .link) (s .reading) (s .alive) h
+    stores-reading a m′ c (ends b e) s h = absurd (waits-not-force (put (s .link) (s .reading)) b (sym (s .comes .waited) ∙ e))
+    stores-reading a m′ c (comes-and-ends o b e f) s h =
+        ap (λ (x : Operation R). getD (brought d m p x .readings) c d) (waits-same o (put (s .link) (s .reading)) (sym e ∙ s .comes .waited))
+        ∙ stored-readings c (s .seen) (s .link) (s .reading) (s .alive) h
+
     -- a take in force gives the link the channel and its reading
     pub takes-link : (a : Answer) (m′ : Meaning R) (j c : ℕ) → j < length (m .links) → Turned d m p a m′ → Comes m m′ p (take j c)
         → linkAt m′ j ≡ holds c (getD (m .readings) c d) true
@@ -175,30 +199,64 @@ module _ {R : Type 0} where
         ap (λ (x : Operation R). getD (brought d m p x .links) j vacant) (waits-same o (take j c) (sym e ∙ t .waited))
         ∙ getD-set-same (m .links) j (holds c (getD (m .readings) c d) true) vacant h
 
-    put-forced : (i : ℕ) (r : R) (c : ℕ) (x : R) (live : Bool) → linkAt m i ≡ holds c x live → activityOf (brought d m p (put i r)) p ≡ inForce (putVerdict live)
+    pub put-forced : (i : ℕ) (r : R) (c : ℕ) (x : R) (live : Bool) → linkAt m i ≡ holds c x live → activityOf (brought d m p (put i r)) p ≡ inForce (putVerdict live)
     put-forced i r c x live l = ap (λ (y : Link R). getD (putOn m p r y .activities) p idle) l ∙ by-live live
       where
         by-live : (b : Bool) → getD (putOn m p r (holds c x b) .activities) p idle ≡ inForce (putVerdict b)
         by-live true = forced-at answers.Stored
         by-live false = forced-at answers.Missed
 
-    pub put-answers : (a : Answer) (m′ : Meaning R) (i : ℕ) (r : R) (c : ℕ) (x : R) (live : Bool) → linkAt m i ≡ holds c x live → Turned d m p a m′ → Comes m m′ p (put i r)
-        → (b : Answer) → (activityOf m′ p ≡ inForce b) ⊎ ((activityOf m′ p ≡ idle) × (a ≡ b)) → b ≡ putVerdict live
-    put-answers a m′ i r c x live l alters-nothing t b w = absurd (t .waits-no-more (t .waited))
-    put-answers a m′ i r c x live l (comes o e) t b w =
-        let f : activityOf (brought d m p o) p ≡ inForce (putVerdict live) =
-            ap (λ (y : Operation R). activityOf (brought d m p y) p) (waits-same o (put i r) (sym e ∙ t .waited)) ∙ put-forced i r c x live l in
-        ⊎-elim (λ (q : activityOf (brought d m p o) p ≡ inForce b). force-same b (putVerdict live) (sym q ∙ f))
-          (λ (q : (activityOf (brought d m p o) p ≡ idle) × (a ≡ b)). absurd (force-not-idle (putVerdict live) (sym f ∙ q .0))) w
-    put-answers a m′ i r c x live l (ends k e) t b w = absurd (waits-not-force (put i r) k (sym (t .waited) ∙ e))
-    put-answers a m′ i r c x live l (comes-and-ends o k e f) t b w =
-        let same : activityOf (brought d m p o) p ≡ inForce (putVerdict live) =
-            ap (λ (y : Operation R). activityOf (brought d m p y) p) (waits-same o (put i r) (sym e ∙ t .waited)) ∙ put-forced i r c x live l in
-        let is : k ≡ putVerdict live = force-same k (putVerdict live) (sym f ∙ same) in
-        ⊎-elim (λ (q : activityOf (does (brought d m p o) p idle) p ≡ inForce b). absurd (not-forced (brought d m p o .activities) b f q))
-          (λ (q : (activityOf (does (brought d m p o) p idle) p ≡ idle) × (a ≡ b)). sym (q .1) ∙ is) w
+    -- the answer of an operation that came into force, where it is known what it is in force with
+    pub forced-answers : (a : Answer) (m′ : Meaning R) (o : Operation R) (v : Answer) → activityOf (brought d m p o) p ≡ inForce v → Turned d m p a m′ → Comes m m′ p o
+        → (b : Answer) → (activityOf m′ p ≡ inForce b) ⊎ ((activityOf m′ p ≡ idle) × (a ≡ b)) → b ≡ v
+    forced-answers a m′ o v g alters-nothing t b w = absurd (t .waits-no-more (t .waited))
+    forced-answers a m′ o v g (comes u e) t b w =
+        let f : activityOf (brought d m p u) p ≡ inForce v = ap (λ (y : Operation R). activityOf (brought d m p y) p) (waits-same u o (sym e ∙ t .waited)) ∙ g in
+        ⊎-elim (λ (q : activityOf (brought d m p u) p ≡ inForce b). force-same b v (sym q ∙ f))
+          (λ (q : (activityOf (brought d m p u) p ≡ idle) × (a ≡ b)). absurd (force-not-idle v (sym f ∙ q .0))) w
+    forced-answers a m′ o v g (ends k e) t b w = absurd (waits-not-force o k (sym (t .waited) ∙ e))
+    forced-answers a m′ o v g (comes-and-ends u k e f) t b w =
+        let same : activityOf (brought d m p u) p ≡ inForce v = ap (λ (y : Operation R). activityOf (brought d m p y) p) (waits-same u o (sym e ∙ t .waited)) ∙ g in
+        let is : k ≡ v = force-same k v (sym f ∙ same) in
+        ⊎-elim (λ (q : activityOf (does (brought d m p u) p idle) p ≡ inForce b). absurd (force-not-idle b (sym q ∙ idle-there (brought d m p u .activities))))
+          (λ (q : (activityOf (does (brought d m p u) p idle) p ≡ idle) × (a ≡ b)). sym (q .1) ∙ is) w
+
+    -- ** readings of channels
+
+    -- a turn leaves a channel's reading, or its put stores there
+    pub data Rewritten (m′ : Meaning R) (c : ℕ) : Type 0 where
+      same-reading : getD (m′ .readings) c d ≡ getD (m .readings) c d → Rewritten m′ c
+      stored-reading : Stores m m′ p c → Rewritten m′ c
+
+    put-rewrites : (m′ : Meaning R) (c i : ℕ) (r : R) → activityOf m p ≡ waits (put i r) → (l : Link R) → linkAt m i ≡ l → m′ .readings ≡ putOn m p r l .readings
+        → ((c : ℕ) (x : R) → l ≡ holds c x true → activityOf m′ p ≢ waits (put i r)) → Rewritten m′ c
+    put-rewrites m′ c i r e vacant q l n = same-reading (ap (λ (xs : List R). getD xs c d) l)
+    put-rewrites m′ c i r e (holds k x true) q l n = ⊎-elim
+        (λ (z : c ≡ k). stored-reading
+          (record { link = i; reading = r; seen = x; comes = record { waited = e; waits-no-more = n k x refl }; alive = q ∙ ap (λ (y : ℕ). holds y x true) (sym z) }))
+        (λ (z : c ≡ k → ⊥). same-reading (ap (λ (xs : List R). getD xs c d) l ∙ getD-set-other (m .readings) k c r d z)) (cases-eq c k)
+    put-rewrites m′ c i r e (holds k x false) q l n = same-reading (ap (λ (xs : List R). getD xs c d) l)
+
+    brought-rewrites : (c : ℕ) (o : Operation R) → activityOf m p ≡ waits o → Rewritten (brought d m p o) c
+    brought-rewrites c (take i e) w = same-reading refl
+    brought-rewrites c (put i r) w = put-rewrites (brought d m p (put i r)) c i r w (linkAt m i) refl refl (brought-no-more i r)
+    brought-rewrites c (check i) w = same-reading refl
+
+    ended-rewrites : (c : ℕ) (o : Operation R) (a : Answer) → activityOf m p ≡ waits o → activityOf (brought d m p o) p ≡ inForce a → Rewritten (does (brought d m p o) p idle) c
+    ended-rewrites c (take i e) a w f = same-reading refl
+    ended-rewrites c (put i r) a w f = put-rewrites (does (brought d m p (put i r)) p idle) c i r w (linkAt m i) refl refl (ended-no-more i r)
+    ended-rewrites c (check i) a w f = same-reading refl
+
+    pub turn-rewrites : (a : Answer) (m′ : Meaning R) (c : ℕ) → Turned d m p a m′ → Rewritten m′ c
+    turn-rewrites a m′ c alters-nothing = same-reading refl
+    turn-rewrites a m′ c (comes o e) = brought-rewrites c o e
+    turn-rewrites a m′ c (ends b e) = same-reading refl
+    turn-rewrites a m′ c (comes-and-ends o b e f) = ended-rewrites c o b e f
+
+    -- a check's answer, by its link
+    pub check-forced : (i c : ℕ) (x : R) (live : Bool) → linkAt m i ≡ holds c x live → activityOf (brought d m p (check i)) p ≡ inForce (checkVerdict live)
+    check-forced i c x live l = forced-at (verdict (linkAt m i)) ∙ ap inForce (ap verdict l ∙ by-live live)
       where
-        not-forced : (acts : List (Activity R)) (z : Answer) → getD acts p idle ≡ inForce k → getD (set acts p idle) p idle ≡ inForce z → ⊥
-        not-forced acts z q w = ⊎-elim
-            (λ (h : p < length acts). force-not-idle z (sym w ∙ getD-set-same acts p idle idle h))
-            (λ (h : length acts ≤ p). force-not-idle k (sym q ∙ getD-past acts p idle h)) (cases-lt p (length acts))
+        by-live : (b : Bool) → verdict (holds c x b) ≡ checkVerdict b
+        by-live true = refl
+        by-live false = refl

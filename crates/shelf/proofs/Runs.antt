@@ -13,10 +13,11 @@ use Rattle.std.specs.declared.option.Option.the-variants.{Some, None}
 use Rattle.std.proofs.shelf.Lists.{getD-set-same, getD-set-other, getD-past, length-set}
 use Rattle.std.proofs.shelf.Tests.{cases-eq, cases-lt, lt-ltb, eq-eqb, ne-eqb, both-ways}
 use Rattle.plan.specs.Refusals.{accepted}
+use Rattle.plan.specs.Plans.{width}
 use Rattle.plan.specs.declared.check.Plan.{Plan}
 use Rattle.shelf.specs.declared.answer.Answer.{Answer}
 use Rattle.shelf.specs.declared.answer.Answer.the-variants as answers
-use Rattle.shelf.specs.Meaning.{Own, Link, vacant, holds, Operation, take as takeOp, put, check, Activity, idle, waits, inForce, Meaning, linkAt, activityOf, does, linking, breakOn, Turned, Sizes, Comes, Stores, blankMeaning}
+use Rattle.shelf.specs.Meaning.{Own, Link, vacant, holds, Operation, take as takeOp, put, check, Activity, idle, waits, inForce, Meaning, linkAt, activityOf, does, linking, breakOn, brought, Turned, Sizes, Comes, Stores, blankMeaning}
 use Rattle.shelf.specs.Rules.{Rules, Fresh}
 use Rattle.shelf.specs.Calls.{Call, Turn, Look, isIdle, testsOf, leaves, after, stateAfter, turnAnswer}
 use Rattle.shelf.proofs.Passing.{Passed, passes}
@@ -25,9 +26,12 @@ use Rattle.shelf.specs.Laws.{afterAll, callerOf, shownBy, stateAt, meaningAt, 
 use Rattle.shelf.proofs.Basics.{own-apart, own-below}
 use Rattle.shelf.proofs.After.{sound-after}
 use Rattle.shelf.proofs.Did.{Begins, Did, nothing, starts-take, starts-put, starts-check, drops, turns, did, same-plan}
-use Rattle.shelf.proofs.Moves.{Moved, kept, broke, came, turn-moves, turn-other, still-waits, stores-break, takes-link, put-answers, putVerdict}
+use Rattle.shelf.proofs.Moves.{Moved, kept, broke, came, turn-moves, turn-other, still-waits, stores-break, takes-link, Rewritten, same-reading, stored-reading, turn-rewrites, stores-reading, forced-answers, put-forced, check-forced, putVerdict, checkVerdict}
 
 module _ {R : Type 0} (rules : Rules R) where
+  abbrev empty-link : Link R
+  empty-link = vacant
+
   -- the link of a waiting take is the party's own, and empty
   abbrev Tidy : rules .State → Type 0
   Tidy s = (p j c : ℕ) → activityOf (rules .means s) p ≡ waits (takeOp j c) → (p < rules .plan s .parties) × Own (rules .plan s) p j × (linkAt (rules .means s) j ≡ vacant)
@@ -176,6 +180,12 @@ module _ {R : Type 0} (rules : Rules R) where
     turn-same : (p q : ℕ) → _≡_ {A = Call R} (Turn p) (Turn q) → p ≡ q
     turn-same p q e = cc
 
+    -- the turn of a busy party
+    turned-at : (t p : ℕ) → t < length calls → p < rules .plan (at t) .parties → activityOf (rules .means (at t)) p ≢ idle → after rules (at t) (callAt rules start calls t) ≡ rules .turned (at t) p
+        → Turned (rules .blank) (rules .means (at t)) p (rules .answer (at t) p) (rules .means (at (suc t)))
+    turned-at t p h known n e =
+        subst (λ (y : rules .State). Turned (rules .blank) (rules .means (at t)) p (rules .answer (at t) p) (rules .means y)) (sym (next t h ∙ e)) (rules .turns (at t) p (good t .is-sound) known n .3)
+
     busy-known : (t p : ℕ) (o : Operation R) → activityOf (rules .means (at t)) p ≡ waits o → p < rules .plan (at t) .parties
     busy-known t p o w = ⊎-elim (λ (h : p < rules .plan (at t) .parties). h)
         (λ (h : rules .plan (at t) .parties ≤ p). absurd (waits-not-idle o (sym w ∙ getD-past (rules .means (at t) .activities) p idle (omega (arith, rules .sizes (at t) (good t .is-sound) .activities)))))
@@ -313,19 +323,47 @@ module _ {R : Type 0} (rules : Rules R) where
     stored-live true e = refl
     stored-live false e = let z : _≡_ {A = ℕ} 0 1 = cc in absurd (omega arith)
 
+    checked-live : (live : Bool) → checkVerdict live ≡ answers.Live → live ≡ true
+    checked-live true e = refl
+    checked-live false e = let z : _≡_ {A = ℕ} 0 1 = cc in absurd (omega arith)
+
+    put-either : (live : Bool) → (putVerdict live ≡ answers.Stored) ⊎ (putVerdict live ≡ answers.Missed)
+    put-either true = inl refl
+    put-either false = inr refl
+
+    check-either : (live : Bool) → (checkVerdict live ≡ answers.Live) ⊎ (checkVerdict live ≡ answers.Broken)
+    check-either true = inl refl
+    check-either false = inr refl
+
+    same-answer : (a b : Answer) → accepted a ≡ accepted b → a ≡ b
+    same-answer a b e = cc
+
+    -- the answer of an operation in force, where it is known what it is in force with
+    answer-is : (u q : ℕ) (o : Operation R) (v a : Answer) → ComesAt rules start calls u q o → HasAnswer rules start calls u q a
+        → activityOf (brought (rules .blank) (rules .means (at u)) q o) q ≡ inForce v → a ≡ v
+    answer-is u q o v a y w f =
+        let z = turns-at u q o (y .in-past) (y .is-turn) (y .comes .waited) in
+        forced-answers (rules .blank) (rules .means (at u)) q (z .long) (rules .answer (at u) q) (rules .means (at (suc u))) o v f (z .turned) (y .comes) a
+          (⊎-elim (λ (g : activityOf (rules .means (at (suc u))) q ≡ inForce a). inl g)
+            (λ (g : (activityOf (rules .means (at (suc u))) q ≡ idle) × (turnAnswer rules (at u) q ≡ accepted a)). inr (g .0, same-answer (rules .answer (at u) q) a (sym (z .answered) ∙ g .1))) w)
+
     put-law : (t u p q j c : ℕ) (r : R) (a : Answer) → ComesAt rules start calls t p (takeOp j c) → t < u → HeldSince rules start calls t u j → ComesAt rules start calls u q (put j r) → HasAnswer rules start calls u q a
-        → (NoneBetween rules start calls t u c → a ≡ answers.Stored) × (a ≡ answers.Stored → NoneBetween rules start calls t u c)
+        → (NoneBetween rules start calls t u c → a ≡ answers.Stored) × (a ≡ answers.Stored → NoneBetween rules start calls t u c) × ((a ≡ answers.Stored) ⊎ (a ≡ answers.Missed))
     put-law t u p q j c r a x h held y w =
         let k = linked t u p j c x h (omega (arith, y .in-past)) held in
         let z = turns-at u q (put j r) (y .in-past) (y .is-turn) (y .comes .waited) in
-        let is : a ≡ putVerdict (k .live) =
-            put-answers (rules .blank) (rules .means (at u)) q (z .long) (rules .answer (at u) q) (rules .means (at (suc u))) j r c _ (k .live) (k .shows) (z .turned) (y .comes) a
-              (⊎-elim (λ (f : activityOf (rules .means (at (suc u))) q ≡ inForce a). inl f)
-                (λ (f : (activityOf (rules .means (at (suc u))) q ≡ idle) × (turnAnswer rules (at u) q ≡ accepted a)). inr (f .0, same-answer (rules .answer (at u) q) a (sym (z .answered) ∙ f .1))) w) in
-        (λ none. is ∙ ap putVerdict (k .live-if-none none), λ e. k .none-if-live (stored-live (k .live) (sym is ∙ e)))
-      where
-        same-answer : (a b : Answer) → accepted a ≡ accepted b → a ≡ b
-        same-answer a b e = cc
+        let is : a ≡ putVerdict (k .live) = answer-is u q (put j r) (putVerdict (k .live)) a y w (put-forced (rules .blank) (rules .means (at u)) q (z .long) j r c _ (k .live) (k .shows)) in
+        (λ none. is ∙ ap putVerdict (k .live-if-none none), λ e. k .none-if-live (stored-live (k .live) (sym is ∙ e)),
+         ⊎-elim (λ (e : putVerdict (k .live) ≡ answers.Stored). inl (is ∙ e)) (λ (e : putVerdict (k .live) ≡ answers.Missed). inr (is ∙ e)) (put-either (k .live)))
+
+    check-law : (t u p q j c : ℕ) (a : Answer) → ComesAt rules start calls t p (takeOp j c) → t < u → HeldSince rules start calls t u j → ComesAt rules start calls u q (check j) → HasAnswer rules start calls u q a
+        → (NoneBetween rules start calls t u c → a ≡ answers.Live) × (a ≡ answers.Live → NoneBetween rules start calls t u c) × ((a ≡ answers.Live) ⊎ (a ≡ answers.Broken))
+    check-law t u p q j c a x h held y w =
+        let k = linked t u p j c x h (omega (arith, y .in-past)) held in
+        let z = turns-at u q (check j) (y .in-past) (y .is-turn) (y .comes .waited) in
+        let is : a ≡ checkVerdict (k .live) = answer-is u q (check j) (checkVerdict (k .live)) a y w (check-forced (rules .blank) (rules .means (at u)) q (z .long) j c _ (k .live) (k .shows)) in
+        (λ none. is ∙ ap checkVerdict (k .live-if-none none), λ e. k .none-if-live (checked-live (k .live) (sym is ∙ e)),
+         ⊎-elim (λ (e : checkVerdict (k .live) ≡ answers.Live). inl (is ∙ e)) (λ (e : checkVerdict (k .live) ≡ answers.Broken). inr (is ∙ e)) (check-either (k .live)))
 
     broken-law : (t v u p j c : ℕ) → ComesAt rules start calls t p (takeOp j c) → t < v → v < u → u ≤ length calls → StoresAt rules start calls v c → HeldSince rules start calls t u j
         → (x : R) × (linkAt (rules .means (at u)) j ≡ holds c x false)
@@ -336,6 +374,99 @@ module _ {R : Type 0} (rules : Rules R) where
         by-live : (live : Bool) → linkAt (rules .means (at u)) j ≡ holds c (getD (rules .means (at t) .readings) c (rules .blank)) live → (live ≡ true → ⊥) → (x : R) × (linkAt (rules .means (at u)) j ≡ holds c x false)
         by-live true l n = absurd (n refl)
         by-live false l n = (getD (rules .means (at t) .readings) c (rules .blank), l)
+
+    -- ** readings
+
+    unchanged-law : (t c : ℕ) → t < length calls → (StoresAt rules start calls t c → ⊥)
+        → getD (rules .means (at (suc t)) .readings) c (rules .blank) ≡ getD (rules .means (at t) .readings) c (rules .blank)
+    unchanged-law t c h none = by-did (did rules (at t) (good t .is-sound) (callAt rules start calls t))
+      where
+        over : (m′ : Meaning R) → rules .means (after rules (at t) (callAt rules start calls t)) ≡ m′ → getD (m′ .readings) c (rules .blank) ≡ getD (rules .means (at t) .readings) c (rules .blank)
+            → getD (rules .means (at (suc t)) .readings) c (rules .blank) ≡ getD (rules .means (at t) .readings) c (rules .blank)
+        over m′ e q = ap (λ (y : rules .State). getD (rules .means y .readings) c (rules .blank)) (next t h) ∙ (ap (λ (y : Meaning R). getD (y .readings) c (rules .blank)) e ∙ q)
+        by-turn : (p : ℕ) → callAt rules start calls t ≡ Turn p → (long : p < length (rules .means (at t) .activities)) → Rewritten (rules .blank) (rules .means (at t)) p long (rules .means (at (suc t))) c
+            → getD (rules .means (at (suc t)) .readings) c (rules .blank) ≡ getD (rules .means (at t) .readings) c (rules .blank)
+        by-turn p is long (same-reading f) = f
+        by-turn p is long (stored-reading st) = absurd (none (record { in-past = h; party = p; is-turn = is; stores = st }))
+        by-did : Did rules (at t) (callAt rules start calls t) → getD (rules .means (at (suc t)) .readings) c (rules .blank) ≡ getD (rules .means (at t) .readings) c (rules .blank)
+        by-did (nothing e) = over (rules .means (at t)) (ap (rules .means) e) refl
+        by-did (starts-take p i x b) = over _ (b .meant) refl
+        by-did (starts-put p i r b) = over _ (b .meant) refl
+        by-did (starts-check p i b) = over _ (b .meant) refl
+        by-did (drops p i b) = over _ (b .meant) refl
+        by-did (turns p is known n e) =
+            let long : p < length (rules .means (at t) .activities) = omega (arith, known, rules .sizes (at t) (good t .is-sound) .activities) in
+            by-turn p is long (turn-rewrites (rules .blank) (rules .means (at t)) p long (rules .answer (at t) p) (rules .means (at (suc t))) c (turned-at t p h known n e))
+
+    changed-law : (t c : ℕ) → c < rules .plan start .channels → (x : StoresAt rules start calls t c) → getD (rules .means (at (suc t)) .readings) c (rules .blank) ≡ x .stores .reading
+    changed-law t c h x =
+        let y = turns-at t (x .party) (put (x .stores .link) (x .stores .reading)) (x .in-past) (x .is-turn) (x .stores .comes .waited) in
+        stores-reading (rules .blank) (rules .means (at t)) (x .party) (y .long) (rules .answer (at t) (x .party)) (rules .means (at (suc t))) c (y .turned) (x .stores)
+          (omega (arith, rules .sizes (at t) (good t .is-sound) .readings, ap (λ (pl : Plan). pl .channels) (good t .same)))
+
+    -- ** where a held link comes from
+
+    pub record From (u j : ℕ) : Type 0 where
+      pub when : ℕ
+      pub who : ℕ
+      pub which : ℕ
+      pub comes : ComesAt rules start calls when who (takeOp j which)
+      pub before : when < u
+      pub held : HeldSince rules start calls when u j
+
+    -- a link that is not empty now and was before is held on
+    held-on : (u j : ℕ) → From u j → linkAt (rules .means (at (suc u))) j ≢ vacant → From (suc u) j
+    held-on u j f n = record {
+      when = f .when; who = f .who; which = f .which; comes = f .comes; before = omega (arith, f .before);
+      held = λ v a b z. ⊎-elim
+          (λ (e : v ≡ suc u). n (ap (λ (w : ℕ). linkAt (rules .means (at w)) j) (sym e) ∙ z))
+          (λ (e : v ≡ suc u → ⊥). f .held v a (omega arith) z) (cases-eq v (suc u)) }
+
+    -- a link that was empty before the call and is not now was taken in it
+    new-link : (u j : ℕ) → u < length calls → linkAt (rules .means (at u)) j ≡ vacant → linkAt (rules .means (at (suc u))) j ≢ vacant → From (suc u) j
+    new-link u j h l full = by-did (did rules (at u) (good u .is-sound) (callAt rules start calls u))
+      where
+        still : (m′ : Meaning R) → rules .means (after rules (at u) (callAt rules start calls u)) ≡ m′ → linkAt m′ j ≡ vacant → From (suc u) j
+        still m′ e q = absurd (full (ap (λ (y : rules .State). linkAt (rules .means y) j) (next u h) ∙ (ap (λ (y : Meaning R). linkAt y j) e ∙ q)))
+        by-move : (p : ℕ) → callAt rules start calls u ≡ Turn p → (long : p < length (rules .means (at u) .activities)) → Turned (rules .blank) (rules .means (at u)) p (rules .answer (at u) p) (rules .means (at (suc u)))
+            → Moved (rules .blank) (rules .means (at u)) p long (rules .means (at (suc u))) j → From (suc u) j
+        by-move p is long t (kept f) = absurd (full (f ∙ l))
+        by-move p is long t (broke c st f) = absurd (full (f ∙ ap (breakOn c) l))
+        by-move p is long t (came c w) = record {
+          when = u; who = p; which = c;
+          comes = record { in-past = h; is-turn = is; comes = record { waited = w;
+            waits-no-more = λ z. full (still-waits (rules .blank) (rules .means (at u)) p long (rules .answer (at u) p) (rules .means (at (suc u))) (takeOp j c) t z .links j ∙ l) } };
+          before = omega arith;
+          held = λ v a b z. full (ap (λ (w : ℕ). linkAt (rules .means (at w)) j) (let e : suc u ≡ v = omega arith in e) ∙ z) }
+        by-did : Did rules (at u) (callAt rules start calls u) → From (suc u) j
+        by-did (nothing e) = still (rules .means (at u)) (ap (rules .means) e) l
+        by-did (starts-take p i x b) = still _ (b .meant) (stays-vacant (rules .means (at u) .links) i j l)
+        by-did (starts-put p i r b) = still _ (b .meant) l
+        by-did (starts-check p i b) = still _ (b .meant) l
+        by-did (drops p i b) = still _ (b .meant) (stays-vacant (rules .means (at u) .links) i j l)
+        by-did (turns p is known n e) =
+            let long : p < length (rules .means (at u) .activities) = omega (arith, known, rules .sizes (at u) (good u .is-sound) .activities) in
+            let t = turned-at u p h known n e in
+            by-move p is long t (turn-moves (rules .blank) (rules .means (at u)) p long (rules .answer (at u) p) (rules .means (at (suc u))) j t)
+
+    is-vacant : (l : Link R) → (l ≡ vacant) ⊎ (l ≡ vacant → ⊥)
+    is-vacant vacant = inl refl
+    is-vacant (holds c x t) = inr (λ e. vacant-not c x t (sym e))
+
+    from : (u j : ℕ) → u ≤ length calls → linkAt (rules .means (at u)) j ≢ vacant → From u j
+    from zero j h n = absurd (n (ap (λ (m : Meaning R). linkAt m j) (fresh .is-blank) ∙ no-links (width (rules .plan start)) j))
+      where
+        no-links : (n i : ℕ) → getD (replicate n empty-link) i vacant ≡ vacant
+        no-links zero i = refl
+        no-links (suc n) zero = refl
+        no-links (suc n) (suc i) = no-links n i
+    from (suc u) j h n = ⊎-elim
+        (λ (e : linkAt (rules .means (at u)) j ≡ vacant). new-link u j (omega arith) e n)
+        (λ (e : linkAt (rules .means (at u)) j ≡ vacant → ⊥). held-on u j (from u j (omega arith) e) n) (is-vacant (linkAt (rules .means (at u)) j))
+
+    taken-law : (u j : ℕ) → u ≤ length calls → linkAt (rules .means (at u)) j ≢ vacant
+        → (t : ℕ) × (p : ℕ) × (c : ℕ) × ComesAt rules start calls t p (takeOp j c) × (t < u) × HeldSince rules start calls t u j
+    taken-law u j h n = let f = from u j h n in (f .when, f .who, f .which, f .comes, f .before, f .held)
 
     shown-broken : (c : ℕ) (l : Link R) → shownBy (breakOn c l) ≡ shownBy l
     shown-broken c vacant = refl
@@ -382,7 +513,11 @@ module _ {R : Type 0} (rules : Rules R) where
 
   pub ideal-links : IdealLinks rules
   ideal-links s fresh calls = record {
+    unchanged = unchanged-law s fresh calls;
+    changed = changed-law s fresh calls;
+    taken = taken-law s fresh calls;
     links = linked s fresh calls;
     puts = put-law s fresh calls;
+    checks = check-law s fresh calls;
     broken = broken-law s fresh calls;
     alone = alone-law s fresh calls }

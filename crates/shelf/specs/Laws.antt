@@ -10,8 +10,8 @@ use Rattle.std.specs.declared.option.Option.{Option}
 use Rattle.std.specs.declared.option.Option.the-variants.{Some, None}
 use Rattle.plan.specs.Refusals.{accepted}
 use Rattle.shelf.specs.declared.answer.Answer.{Answer}
-use Rattle.shelf.specs.declared.answer.Answer.the-variants.{Stored}
-use Rattle.shelf.specs.Meaning.{Own, Link, vacant, holds, Operation, take as takeOp, put, idle, inForce, Meaning, linkAt, activityOf, Comes, Stores, isOn}
+use Rattle.shelf.specs.declared.answer.Answer.the-variants.{Stored, Missed, Live, Broken}
+use Rattle.shelf.specs.Meaning.{Own, Link, vacant, holds, Operation, take as takeOp, put, check, idle, inForce, Meaning, linkAt, activityOf, Comes, Stores, isOn}
 use Rattle.shelf.specs.Rules.{Rules, Fresh}
 use Rattle.shelf.specs.Calls.{Call, Take, Put, Check, Drop, Look, Turn, after, turnAnswer}
 
@@ -58,7 +58,7 @@ module _ {R : Type 0} (rules : Rules R) (start : rules .State) (calls : List (Ca
     pub is-turn : callAt t ≡ Turn party
     pub stores : Stores (meaningAt t) (meaningAt (suc t)) party c
 
-  -- no put came into force on channel c after call t and before call u
+  -- no put stored on channel c after call t and before call u
   abbrev pub NoneBetween : ℕ → ℕ → ℕ → Type 0
   NoneBetween t u c = (v : ℕ) → t < v → v < u → StoresAt v c → ⊥
 
@@ -67,7 +67,7 @@ module _ {R : Type 0} (rules : Rules R) (start : rules .State) (calls : List (Ca
   HeldSince t u j = (v : ℕ) → t < v → v ≤ u → linkAt (meaningAt v) j ≢ vacant
 
   -- what a held link is: it shows what its channel held when its take came into force,
-  -- and it is live exactly if no put came into force on the channel since
+  -- and it is live exactly if no put stored on the channel since
   pub record SinceTake (t u j c : ℕ) : Type 0 where
     pub live : Bool
     pub shows : linkAt (meaningAt u) j ≡ holds c (getD (meaningAt t .readings) c (rules .blank)) live
@@ -80,12 +80,24 @@ module _ {R : Type 0} (rules : Rules R) (start : rules .State) (calls : List (Ca
       (activityOf (meaningAt (suc u)) p ≡ inForce a)
       ⊎ ((activityOf (meaningAt (suc u)) p ≡ idle) × (turnAnswer rules (stateAt u) p ≡ accepted a))
 
+  -- what channel c reads before call t
+  abbrev pub readingAt : ℕ → ℕ → R
+  readingAt t c = getD (meaningAt t .readings) c (rules .blank)
+
   pub record LinksIdeal : Type 0 where
-    -- a link that was taken and is still held
+    -- a channel reads what it read, unless a put on a live link of it comes into force; then it reads what that put gave
+    pub unchanged : (t c : ℕ) → t < length calls → (StoresAt t c → ⊥) → readingAt (suc t) c ≡ readingAt t c
+    pub changed : (t c : ℕ) → c < rules .plan start .channels → (x : StoresAt t c) → readingAt (suc t) c ≡ x .stores .reading
+    -- a link that is not empty was taken, and has been held since
+    pub taken : (u j : ℕ) → u ≤ length calls → linkAt (meaningAt u) j ≢ vacant → (t : ℕ) × (p : ℕ) × (c : ℕ) × ComesAt t p (takeOp j c) × (t < u) × HeldSince t u j
+    -- what it is then
     pub links : (t u p j c : ℕ) → ComesAt t p (takeOp j c) → t < u → u ≤ length calls → HeldSince t u j → SinceTake t u j c
-    -- a put that comes into force on it answers "put" exactly if no put came into force on the channel since the take
+    -- a put that comes into force on it answers "put" exactly if no put stored on the channel since the take, and else "missed"
     pub puts : (t u p q j c : ℕ) (r : R) (a : Answer) → ComesAt t p (takeOp j c) → t < u → HeldSince t u j → ComesAt u q (put j r) → HasAnswer u q a
-        → (NoneBetween t u c → a ≡ Stored) × (a ≡ Stored → NoneBetween t u c)
+        → (NoneBetween t u c → a ≡ Stored) × (a ≡ Stored → NoneBetween t u c) × ((a ≡ Stored) ⊎ (a ≡ Missed))
+    -- and a check "live", else "broken"
+    pub checks : (t u p q j c : ℕ) (a : Answer) → ComesAt t p (takeOp j c) → t < u → HeldSince t u j → ComesAt u q (check j) → HasAnswer u q a
+        → (NoneBetween t u c → a ≡ Live) × (a ≡ Live → NoneBetween t u c) × ((a ≡ Live) ⊎ (a ≡ Broken))
     -- after a put on its channel a link is broken, whatever the channel reads by then
     pub broken : (t v u p j c : ℕ) → ComesAt t p (takeOp j c) → t < v → v < u → u ≤ length calls → StoresAt v c → HeldSince t u j
         → (x : R) × (linkAt (meaningAt u) j ≡ holds c x false)
@@ -108,7 +120,7 @@ turnsOf p (Drop q i ∷ ks) = turnsOf p ks
 turnsOf p (Look q i ∷ ks) = turnsOf p ks
 turnsOf p (Turn q ∷ ks) = cond (eqb q p) 1 0 + turnsOf p ks
 
--- party p's operation goes on through all the calls, and no other party's put comes into force on a live link of its channel
+-- party p's operation goes on through all the calls, and no other party's put comes into force on a live link of the channel on which it waits
 abbrev pub GoesOn : {R : Type 0} (rules : Rules R) → rules .State → ℕ → List (Call R) → Type 0
 GoesOn rules s p [] = Unit {0}
 GoesOn rules s p (k ∷ ks) =

@@ -4,8 +4,9 @@ ghost use Rattle.shelf.specs.Laws.{IdealLinks, Patient};
 use crate::shelf::Shelf;
 
 /// Over every run of calls from a fresh shelf: a link that is held shows what its channel held when its take came into
-/// force; it is live exactly if no put came into force on the channel since; a put on it answers "put" exactly then;
-/// a channel that went 7, 8, 7 has broken its links; and nobody else's call changes what a party's links show.
+/// force; it is live exactly if no put stored on the channel since; a put on it answers "put" and a check "live"
+/// exactly then; a channel that went 7, 8, 7 has broken its links; and nobody else's call changes what a party's
+/// links show.
 pub fn links_are_ideal<S: Shelf>(_shelf: &S)
     ensures { λ _. ⌜ IdealLinks rules ⌝ }
 {

@@ -26,7 +26,7 @@ pub trait Shelf {
         ensures sound { λ _. ⌜ rules .sound (state (now (self .entry))) ⌝ }
         ensures blank { λ _. ⌜ rules .blank ≡ Item·Reading .kind .blank ⌝ };
 
-    /// The plan that the shelf was made from; all sizes are 0 if the plan check refused it.
+    /// The plan of the shelf.
     fn plan(&self) -> Plan
         ensures { λ r. ⌜ r ≡ rules .plan (state (now (self .entry))) ⌝ };
 
