@@ -6,6 +6,9 @@ use std::error::AnyError;
 use std::io;
 use std::io::Read;
 
+// No sheet has more records, so with this much room the reader does not want for memory.
+const MOST_RECORDS: usize = 65_536;
+
 // The header, a numbered line for each record, and how the reading ended.
 fn print_contents(rt: &LibcRuntime, summary: Summary, records: &[Record]) -> io::Result<()> {
     if let Some(header) = summary.header {
@@ -30,7 +33,7 @@ fn read_input(rt: &LibcRuntime) -> io::Result<Vec<u8>> {
 
 fn run(rt: &LibcRuntime) -> Result<(), AnyError> {
     let bytes = read_input(rt)?;
-    let mut records = Vec::new(rt.alloc());
+    let mut records = Vec::with_capacity(rt.alloc(), MOST_RECORDS)?;
     let summary = read_sheet(bytes.as_slice(), &mut records)?;
     print_contents(rt, summary, records.as_slice())?;
     Ok(())

@@ -1,7 +1,7 @@
 -- A plan's ranges, needs and patience, and the check of a plan.
 use mathlib.Core.Bool.{Bool, _&&_}
 use mathlib.Core.List.{List, [], _∷_}
-use Prim.Native.Nat.{ℕ, _+_, _*_, max}
+use Prim.Native.Nat.{ℕ, _+_, _*_, _≤_, max}
 use lib.Dec.{leb}
 use Rattle.plan.specs.declared.check.Plan.{Plan}
 use Rattle.plan.specs.declared.check.ShelfType.{ShelfType}
@@ -37,3 +37,18 @@ planVerdict n k c shelf blocks =
         ∷ record { number = 14; passes = leb (need shelf plan) blocks }
         ∷ [])
         plan
+
+-- a plan whose sizes are in their ranges
+pub record InRange (p : Plan) : Type 0 where
+  pub some-parties : 1 ≤ p .parties
+  pub most-parties : p .parties ≤ 24
+  pub some-links : 1 ≤ p .links
+  pub most-links : p .links ≤ 4
+  pub some-channels : 1 ≤ p .channels
+  pub most-channels : p .channels ≤ 64
+
+-- one in which no size is above its most
+pub record Small (p : Plan) : Type 0 where
+  pub parties : p .parties ≤ 24
+  pub links : p .links ≤ 4
+  pub channels : p .channels ≤ 64

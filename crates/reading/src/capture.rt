@@ -1,7 +1,7 @@
 ghost use Prim.Native.Nat.{_+_, _<_, _^_};
 
 /// A capture of a logic analyser: its first sample, how many samples it has, and the levels of the lines.
-/// No capture reaches past sample 2^32 − 1, so one outside that bound cannot be made.
+/// In every capture first plus samples is below 2^32; one outside that bound cannot be made.
 #[derive(Clone, Copy, PartialEq, Eq, Debug)]
 pub struct Capture {
     pub first: u32,

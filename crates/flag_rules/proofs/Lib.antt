@@ -1,0 +1,5 @@
+pub mod Lists
+pub mod Steps
+pub mod Meant
+pub mod AsShelf
+pub mod Made
