@@ -1,4 +1,5 @@
 //! Tests of the block shelf on examples.
+#![tactic(auto)]
 
 #[cfg(test)]
 mod tests {

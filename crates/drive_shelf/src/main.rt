@@ -1,5 +1,7 @@
 //! Carries out a script of shelf calls from standard input and prints what each call answers: a way to compare the
 //! shelves with another implementation, call by call. docs/RULES.md has the form of a script.
+#![tactic(auto)]
+
 mod drive;
 mod script;
 

@@ -1,5 +1,7 @@
 //! A past of a hub in which operations finish, so that the law of runs is seen to speak of something; and calls that a
 //! hub refuses.
+#![tactic(auto)]
+
 ghost use Rattle.hub_example.specs.Past.{ExamplePast};
 ghost use Rattle.hub_example.specs.Refusals.{Refuses};
 

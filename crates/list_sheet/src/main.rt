@@ -1,4 +1,6 @@
 //! Prints in plain words what a run sheet on standard input says.
+#![tactic(auto)]
+
 use sheet::sheet::read_sheet;
 use sheet::words::{Record, Summary};
 use std::io;

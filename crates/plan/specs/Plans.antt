@@ -1,9 +1,9 @@
 -- A plan's ranges, needs and patience, and the check of a plan.
-use Rattle.std.specs.Prelude.{ℕ, ◌+◌, ◌*◌, ◌≤◌, max, Bool, ◌&&◌, List, [], ◌∷◌, nat_le}
+use Rattle.std.specs.Prelude.{ℕ, ◌+◌, ◌*◌, ◌≤◌, max, Bool, ◌&&◌, [], ◌∷◌, nat_le}
 use Rattle.plan.specs.declared.check.Plan.{Plan}
 use Rattle.plan.specs.declared.check.ShelfType.{ShelfType}
 use Rattle.plan.specs.declared.check.ShelfType.TheVariants.{Flag, Block}
-use Rattle.plan.specs.Refusals.{Outcome, Test, unless_refused}
+use Rattle.plan.specs.Refusals.{Outcome, unless_refused}
 
 -- H, the links of all parties together
 abbrev pub width : Plan → ℕ

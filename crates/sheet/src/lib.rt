@@ -1,4 +1,6 @@
 //! Run sheets: packed scripts of hub calls, and the reader that decodes them.
+#![tactic(auto)]
+
 mod bit_reader;
 mod bits;
 pub mod channel_list;

@@ -1,4 +1,6 @@
 //! The format of run sheets and the law of sheets, on which the reader rests.
+#![tactic(auto)]
+
 ghost use Rattle.sheet_rules.specs.Sheets.{OneMeaning};
 
 /// Does nothing; promises that no sheet can be read in two ways.

@@ -1,4 +1,5 @@
 //! Tests of plans, kinds of reading and run sheets on examples.
+#![tactic(auto)]
 
 #[cfg(test)]
 mod tests {
