@@ -1,5 +1,5 @@
 -- Kinds of reading.
-use Rattle.std.specs.Prelude.{ℕ, Bool, cond, List, [], ◌∷◌}
+use Rattle.std.specs.Prelude.{ℕ, Bool, [], ◌∷◌}
 use Rattle.plan.specs.Refusals.{Outcome, unless_refused}
 
 -- a kind: its blank reading, the words that it admits, what an admitted word makes of a reading, and the word that shows a reading

@@ -1,5 +1,5 @@
 -- The tally: a 64-bit number to which every word is added.
-use Rattle.std.specs.Prelude.{ℕ, ◌+◌, ◌%◌, ◌^◌, true}
+use Rattle.std.specs.Prelude.{◌+◌, ◌%◌, ◌^◌, true}
 use Rattle.reading.specs.Kinds.{KindOf}
 use Rattle.reading.specs.declared.tally.Tally.{Tally}
 
