@@ -1,10 +1,10 @@
 -- Whatever is called, a shelf stays in a state of which its laws hold.
-use Rattle.std.proofs.Common.{◌≡◌, ℕ, ◌+◌, ◌*◌, ◌<◌, ◌≤◌, Bool, true, false, not, ltb, ◌≢◌, List, [], ◌∷◌, sym, refl, ap, ◌∙◌, subst, arith}
+use Rattle.std.proofs.Common.{◌≡◌, ℕ, ◌<◌, true, not, ◌≢◌, sym, refl, subst, arith}
 use Rattle.std.specs.List.{AllByRecursion as All}
 use Rattle.std.proofs.lemmas.Bool.{ltb-true}
-use Rattle.plan.specs.Refusals.{Outcome, accepted, refused, unless_refused}
+use Rattle.plan.specs.Refusals.{Outcome}
 use Rattle.plan.specs.declared.check.Plan.{Plan}
-use Rattle.shelf.specs.Meaning.{flat, Own, Link, vacant, holds, Activity, idle, waits, in_force, activity_of, link_at}
+use Rattle.shelf.specs.Meaning.{flat, Own, Link, vacant, holds, Activity, idle, waits, in_force}
 use Rattle.shelf.specs.Rules.{Rules}
 use Rattle.shelf.specs.Calls.{Call, Take, Put, Check, Drop, Look, Turn, is_idle, is_vacant, tests_of, leaves, state_after, after}
 use Rattle.shelf.proofs.Passing.{Passed, Ways, all_pass, one_refuses, ways}

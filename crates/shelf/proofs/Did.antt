@@ -1,8 +1,7 @@
 -- What a call does to the meaning of a shelf.
-use Rattle.std.proofs.Common.{◌≡◌, ℕ, ◌+◌, ◌*◌, ◌<◌, ◌≤◌, Bool, true, false, not, ◌≢◌, List, [], ◌∷◌, sym, refl, ap, ◌∙◌, subst}
+use Rattle.std.proofs.Common.{◌≡◌, ℕ, ◌<◌, ◌≢◌, sym, refl, ap, ◌∙◌, subst}
 use Rattle.std.specs.List.{AllByRecursion as All}
 use Rattle.std.proofs.lemmas.Bool.{ltb-true}
-use Rattle.plan.specs.Refusals.{Outcome, accepted, refused, unless_refused}
 use Rattle.shelf.specs.Meaning.{flat, Own, vacant, idle, waits, take, put, check, Meaning, activity_of, link_at, does, linking}
 use Rattle.shelf.specs.Rules.{Rules, Keeps}
 use Rattle.shelf.specs.Calls.{Call, Take, Put, Check, Drop, Look, Turn, tests_of, leaves, state_after, after}

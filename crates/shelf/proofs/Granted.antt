@@ -1,11 +1,11 @@
 -- What the tests of a call tell when it is accepted, and the state and the answer then, for the maker of any shelf.
-use Rattle.std.proofs.Common.{◌≡◌, ℕ, ◌<◌, Bool, true, false, cond, not, ltb, ◌≢◌, List, [], ◌∷◌, sym, refl, ap, ◌∙◌, subst, arith}
+use Rattle.std.proofs.Common.{◌≡◌, ℕ, ◌<◌, true, false, cond, not, ltb, ◌≢◌, List, [], ◌∷◌, sym, refl, ap, ◌∙◌, subst}
 use Rattle.std.specs.List.{AllByRecursion as All}
 use Rattle.std.proofs.lemmas.Bool.{ltb-true, lt-ltb, cond-true, cond-false}
-use Rattle.plan.specs.Refusals.{Test, Outcome, accepted, refused, unless_refused}
+use Rattle.plan.specs.Refusals.{Test, accepted, refused, unless_refused}
 use Rattle.plan.specs.declared.check.Plan.{Plan}
 use Rattle.shelf.specs.declared.answer.Answer.{Answer}
-use Rattle.shelf.specs.Meaning.{flat, Own, Link, vacant, Activity, idle, waits, in_force, Meaning, link_at, activity_of}
+use Rattle.shelf.specs.Meaning.{flat, Own, vacant, Activity, idle, waits, in_force, Meaning, link_at, activity_of}
 use Rattle.shelf.specs.Rules.{Rules}
 use Rattle.shelf.specs.Calls.{Call, Turn, is_idle, known, free, has_link, full, tests_of, leaves, state_after, after, granted, turn_answer}
 use Rattle.shelf.proofs.Passing.{Passed, passes, accepted_passed}

@@ -1,11 +1,11 @@
 -- What a turn does to links and activities, from the relation of a turn alone.
-use Rattle.std.proofs.Common.{◌≡◌, ℕ, zero, suc, ◌+◌, ◌<◌, ◌≤◌, Bool, true, false, cond, eqb, ◌≢◌, ◌⊎◌, List, [], ◌∷◌, map, length, get_or, set, sym, refl, ap, ◌∙◌, subst, inl, inr, ⊎_elim, arith}
+use Rattle.std.proofs.Common.{◌≡◌, ℕ, ◌<◌, ◌≤◌, Bool, true, false, ◌≢◌, ◌⊎◌, List, length, get_or, set, sym, refl, ap, ◌∙◌, ⊎_elim, arith}
 use Rattle.std.proofs.lemmas.List.{length-set, get_or-set_same, get_or-set_other, get_or_past, set_past}
 use Rattle.std.proofs.lemmas.Bool.{cases_eq, cases_lt}
 use Rattle.shelf.specs.declared.answer.Answer.{Answer}
 use Rattle.shelf.specs.declared.answer.Answer.TheVariants as answers
 use Rattle.shelf.proofs.Basics.{get_d_mapped}
-use Rattle.shelf.specs.Meaning.{Link, vacant, holds, Operation, take, put, check, Activity, idle, waits, in_force, Meaning, link_at, activity_of, does, linking, break_on, put_on, verdict, brought, Turned, alters_nothing, comes, ends, comes_and_ends, Comes, Stores}
+use Rattle.shelf.specs.Meaning.{Link, vacant, holds, Operation, take, put, check, Activity, idle, waits, in_force, Meaning, link_at, activity_of, does, break_on, put_on, verdict, brought, Turned, alters_nothing, comes, ends, comes_and_ends, Comes, Stores}
 
 -- a put's answer, by whether its link is live
 abbrev pub put_verdict : Bool → Answer

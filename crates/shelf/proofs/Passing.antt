@@ -1,7 +1,7 @@
 -- Tests down the table of refusals: all passed, or refused by one.
-use Rattle.std.proofs.Common.{◌≡◌, ℕ, Bool, true, false, cond, ◌⊎◌, List, [], ◌∷◌, ◌++◌, sym, refl, ap, ◌∙◌, subst, inl, inr, ⊎_elim, arith}
+use Rattle.std.proofs.Common.{◌≡◌, ℕ, Bool, true, false, cond, List, [], ◌∷◌, ◌++◌, sym, refl, ap, ◌∙◌, arith}
 use Rattle.std.specs.List.{AllByRecursion as All}
-use Rattle.plan.specs.Refusals.{Outcome, accepted, refused, Test, unless_refused}
+use Rattle.plan.specs.Refusals.{accepted, refused, Test, unless_refused}
 
 abbrev pub Passed : Test → Type 0
 Passed t = t.passes ≡ true

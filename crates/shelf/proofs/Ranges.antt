@@ -1,7 +1,7 @@
 -- What an accepted plan check tells.
-use Rattle.std.proofs.Common.{◌≡◌, ℕ, ◌≤◌, Bool, true, false, ◌&&◌, leb, List, [], ◌∷◌, sym, refl, ap, ◌∙◌, subst}
+use Rattle.std.proofs.Common.{◌≡◌, ℕ, ◌≤◌, leb, List, [], ◌∷◌}
 use Rattle.std.proofs.lemmas.Bool.{and_parts, leb-true}
-use Rattle.plan.specs.Refusals.{Test, accepted, unless_refused}
+use Rattle.plan.specs.Refusals.{Test, accepted}
 use Rattle.plan.specs.Plans.{between, need, plan_verdict, InRange, Small}
 use Rattle.plan.specs.declared.check.Plan.{Plan}
 use Rattle.plan.specs.declared.check.ShelfType.{ShelfType}

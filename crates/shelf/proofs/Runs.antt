@@ -1,21 +1,21 @@
 -- Over every run from a fresh shelf, links are ideal.
-use Rattle.std.proofs.Common.{◌≡◌, ℕ, zero, suc, ◌+◌, ◌-◌, ◌*◌, ◌<◌, ◌≤◌, Bool, true, false, cond, not, eqb, ◌≢◌, ◌⊎◌, List, [], ◌∷◌, ◌++◌, length, get_or, take, set, replicate, Some, None, Option, sym, refl, ap, ◌∙◌, subst, inl, inr, ⊎_elim, arith, take-suc}
-use Rattle.std.proofs.lemmas.List.{get_or-set_same, get_or-set_other, get_or_past, length-set}
+use Rattle.std.proofs.Common.{◌≡◌, ℕ, zero, suc, ◌+◌, ◌-◌, ◌<◌, ◌≤◌, Bool, true, false, cond, not, ◌≢◌, ◌⊎◌, List, [], ◌∷◌, ◌++◌, length, get_or, take, set, replicate, sym, refl, ap, ◌∙◌, subst, inl, inr, ⊎_elim, arith, take-suc}
+use Rattle.std.proofs.lemmas.List.{get_or-set_same, get_or-set_other, get_or_past}
 use Rattle.std.proofs.lemmas.Bool.{cases_eq, cases_lt, lt-ltb, eq-eqb, ne_eqb, both_ways}
 use Rattle.plan.specs.Refusals.{accepted}
 use Rattle.plan.specs.Plans.{width}
 use Rattle.plan.specs.declared.check.Plan.{Plan}
 use Rattle.shelf.specs.declared.answer.Answer.{Answer}
 use Rattle.shelf.specs.declared.answer.Answer.TheVariants as answers
-use Rattle.shelf.specs.Meaning.{Own, Link, vacant, holds, Operation, take as take_op, put, check, Activity, idle, waits, in_force, Meaning, link_at, activity_of, does, linking, break_on, brought, Turned, Sizes, Comes, Stores, blank_meaning}
+use Rattle.shelf.specs.Meaning.{Own, Link, vacant, holds, Operation, take as take_op, put, check, Activity, idle, waits, in_force, Meaning, link_at, activity_of, does, linking, break_on, brought, Turned, Stores}
 use Rattle.shelf.specs.Rules.{Rules, Fresh}
-use Rattle.shelf.specs.Calls.{Call, Turn, Look, is_idle, tests_of, leaves, after, state_after, turn_answer}
+use Rattle.shelf.specs.Calls.{Call, Turn, Look, is_idle, tests_of, leaves, after, turn_answer}
 use Rattle.shelf.proofs.Passing.{Passed, passes}
 use Rattle.std.specs.List.{AllByRecursion as All}
-use Rattle.shelf.specs.Laws.{after_all, caller_of, shown_by, state_at, meaning_at, call_at, ComesAt, StoresAt, NoneBetween, HeldSince, SinceTake, HasAnswer, LinksIdeal, IdealLinks}
+use Rattle.shelf.specs.Laws.{after_all, caller_of, shown_by, state_at, call_at, ComesAt, StoresAt, NoneBetween, HeldSince, SinceTake, HasAnswer, IdealLinks}
 use Rattle.shelf.proofs.Basics.{own_apart, own_below}
 use Rattle.shelf.proofs.After.{sound_after}
-use Rattle.shelf.proofs.Did.{Begins, Did, nothing, starts_take, starts_put, starts_check, drops, turns, did, same_plan}
+use Rattle.shelf.proofs.Did.{Did, nothing, starts_take, starts_put, starts_check, drops, turns, did, same_plan}
 use Rattle.shelf.proofs.Moves.{Moved, kept, broke, came, turn_moves, turn_other, still_waits, stores_break, takes_link, Rewritten, same_reading, stored_reading, turn_rewrites, stores_reading, forced_answers, put_forced, check_forced, put_verdict, check_verdict}
 
 module _ {R : Type 0} (rules : Rules R) where

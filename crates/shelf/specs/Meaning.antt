@@ -1,6 +1,6 @@
 -- What a shelf means, and what its operations do to that meaning: ideal load-linked (take), store-conditional (put)
 -- and validate (check).
-use Rattle.std.specs.Prelude.{◌≡◌, ℕ, ◌+◌, ◌*◌, ◌<◌, ◌≤◌, Bool, true, false, cond, ◌≢◌, List, [], ◌∷◌, map, length, replicate, ◌==◌, slice_index_or, slice_set}
+use Rattle.std.specs.Prelude.{◌≡◌, ℕ, ◌+◌, ◌*◌, ◌<◌, ◌≤◌, Bool, true, false, cond, ◌≢◌, List, map, length, replicate, ◌==◌, slice_index_or, slice_set}
 use Rattle.plan.specs.Plans.{width}
 use Rattle.plan.specs.declared.check.Plan.{Plan}
 use Rattle.shelf.specs.declared.answer.Answer.{Answer}

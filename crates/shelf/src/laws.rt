@@ -9,11 +9,11 @@ use crate::shelf::Shelf;
 /// exactly then; a channel that went 7, 8, 7 has broken its links; and nobody else's call changes what a party's
 /// links show.
 pub fn links_are_ideal<S: Shelf>(_shelf: &S)
-    ensures { IdealLinks rules }
+    ensures { IdealLinks S.rules }
 {}
 
 /// Of any (patience + 1) turns that a party spends in one operation, with no other party's put coming into force on a
 /// live link of the operation's channel, one ends it.
 pub fn turns_end_operations<S: Shelf>(_shelf: &S)
-    ensures { Patient rules }
+    ensures { Patient S.rules }
 {}
