@@ -1,18 +1,18 @@
 -- The flag shelf's rules as those of a shelf.
-use Rattle.std.proofs.Common.{◌≡◌, ℕ, ◌+◌, ◌<◌, ◌≤◌, ◌≢◌, ◌⊎◌, List, [], ◌∷◌, map, length, get_or, take, drop, set, sym, refl, ap, ◌∙◌, subst, inl, inr, arith}
+use Rattle.std.proofs.Common.{◌≡◌, ℕ, ◌+◌, ◌<◌, ◌≤◌, ◌≢◌, List, get_or, drop, set, refl, ap, ◌∙◌, inl, arith}
 use Rattle.std.proofs.lemmas.List.{length-map, length-take-le, get_or-set_same, get_or-set_other}
 use Rattle.plan.specs.Plans.{patience}
 use Rattle.plan.specs.declared.check.ShelfType.TheVariants.{Flag}
-use Rattle.shelf.specs.Meaning.{Own, vacant, idle, Meaning, link_at, activity_of, Sizes}
-use Rattle.shelf.specs.Rules.{Keeps, Rules}
+use Rattle.shelf.specs.Meaning.{idle, activity_of, Sizes}
+use Rattle.shelf.specs.Rules.{Rules}
 use Rattle.flag_rules.specs.declared.parts.Mark.{Mark}
 use Rattle.flag_rules.specs.declared.parts.Job.{Job}
 use Rattle.flag_rules.specs.declared.parts.Job.TheVariants.{Idle, Taking, Putting, Checking}
-use Rattle.flag_rules.specs.Flags.{State, mark_at, job_of, with_job, start_take, start_put, start_check, dropped, taken, put_by, turn_by, turned, answer, Sound}
+use Rattle.flag_rules.specs.Flags.{State, mark_at, job_of, start_take, start_put, start_check, dropped, put_by, turn_by, turned, answer, Sound}
 use Rattle.flag_rules.specs.declared.parts.Mark.TheVariants.{Empty, Live, Broken}
 use Rattle.flag_rules.specs.Means.{activity_in, means, job_left}
 use Rattle.flag_rules.proofs.Lists.{length_links}
-use Rattle.flag_rules.proofs.Steps.{sound_out, sound_job, sound_take, sound_drop, sound_turn}
+use Rattle.flag_rules.proofs.Steps.{sound_job, sound_take, sound_drop, sound_turn}
 use Rattle.flag_rules.proofs.Meant.{activity_is, idle_from, full_from, means_job, means_take, means_drop, turns}
 
 module _ {R : Type 0} (d : R) where

@@ -1,5 +1,5 @@
 -- Facts on the lists of a flag shelf: marks, links and blocks.
-use Rattle.std.proofs.Common.{◌≡◌, ℕ, zero, suc, ◌+◌, ◌<◌, ◌≤◌, Bool, true, false, cond, eqb, List, [], ◌∷◌, map, length, get_or, take, drop, set, sym, refl, ap, ◌∙◌, arith}
+use Rattle.std.proofs.Common.{◌≡◌, ℕ, zero, suc, ◌<◌, Bool, true, false, cond, eqb, List, [], ◌∷◌, map, length, get_or, take, set, refl, ap, arith}
 use Rattle.shelf.specs.Meaning.{Link, vacant, holds, break_on, verdict}
 use Rattle.flag_rules.specs.declared.parts.Mark.{Mark}
 use Rattle.flag_rules.specs.declared.parts.Mark.TheVariants.{Empty, Live, Broken}

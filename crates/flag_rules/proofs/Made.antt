@@ -1,14 +1,13 @@
 -- A flag shelf that was just made.
-use Rattle.std.proofs.Common.{◌≡◌, ℕ, zero, suc, ◌+◌, ◌*◌, ◌<◌, ◌≤◌, List, [], ◌∷◌, ◌++◌, map, length, get_or, take, drop, replicate, sym, refl, ap, ◌∙◌, subst, arith}
-use Rattle.std.proofs.lemmas.List.{length-append, length-replicate, length-drop, take-append-le, take-replicate, get_or-replicate}
-use Rattle.plan.specs.Plans.{width, need, plan_verdict, InRange, Small}
-use Rattle.plan.specs.Refusals.{Outcome, accepted, refused}
+use Rattle.std.proofs.Common.{◌≡◌, ℕ, zero, suc, List, [], ◌∷◌, ◌++◌, map, length, get_or, take, drop, replicate, sym, refl, ap, ◌∙◌, subst, arith}
+use Rattle.std.proofs.lemmas.List.{length-append, length-replicate, take-append-le, take-replicate}
+use Rattle.plan.specs.Plans.{width, need, plan_verdict, InRange}
+use Rattle.plan.specs.Refusals.{accepted, refused}
 use Rattle.plan.specs.declared.check.Plan.{Plan}
 use Rattle.plan.specs.declared.check.ShelfType.TheVariants.{Flag}
 use Rattle.shelf.specs.Meaning.{Link, vacant, Activity, idle, blank_meaning}
 use Rattle.shelf.specs.Rules.{Fresh}
-use Rattle.shelf.proofs.Ranges.{Accepted, plan_accepted, range_small}
-use Rattle.flag_rules.specs.declared.parts.Mark.{Mark}
+use Rattle.shelf.proofs.Ranges.{plan_accepted, range_small}
 use Rattle.flag_rules.specs.declared.parts.Mark.TheVariants.{Empty}
 use Rattle.flag_rules.specs.declared.parts.Job.{Job}
 use Rattle.flag_rules.specs.declared.parts.Job.TheVariants.{Idle}

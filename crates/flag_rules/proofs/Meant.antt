@@ -1,12 +1,11 @@
 -- What each step of the flag shelf means.
-use Rattle.std.proofs.Common.{◌≡◌, ℕ, ◌+◌, ◌<◌, ◌≤◌, Bool, true, false, not, ◌≢◌, List, [], ◌∷◌, map, length, get_or, take, drop, set, sym, refl, ap, ◌∙◌, subst, arith}
+use Rattle.std.proofs.Common.{◌≡◌, ℕ, ◌+◌, ◌<◌, true, not, ◌≢◌, List, map, length, get_or, take, drop, set, sym, refl, ap, ◌∙◌, subst, arith}
 use Rattle.shelf.specs.Calls.{is_vacant}
-use Rattle.std.proofs.lemmas.List.{length-set, length-map, length-drop, length-take-le, get_or-set_same, get_or-take, set-set, map-set, take-set-le, drop-set-lt, drop-set-add}
-use Rattle.plan.specs.Plans.{width, need}
-use Rattle.plan.specs.declared.check.Plan.{Plan}
+use Rattle.std.proofs.lemmas.List.{length-map, length-drop, get_or-set_same, get_or-take, set-set, map-set, take-set-le, drop-set-lt, drop-set-add}
+use Rattle.plan.specs.Plans.{width}
 use Rattle.shelf.specs.declared.answer.Answer.{Answer}
 use Rattle.shelf.specs.declared.answer.Answer.TheVariants as answers
-use Rattle.shelf.specs.Meaning.{Own, Link, vacant, holds, Activity, idle, waits, in_force, take as take_op, put, check, Meaning, link_at, activity_of, does, linking, break_on, put_on, verdict, brought, Turned, comes_and_ends}
+use Rattle.shelf.specs.Meaning.{Link, vacant, holds, Activity, idle, waits, in_force, take as take_op, put, check, Meaning, link_at, activity_of, does, linking, break_on, put_on, verdict, brought, Turned, comes_and_ends}
 use Rattle.flag_rules.specs.declared.parts.Mark.{Mark}
 use Rattle.flag_rules.specs.declared.parts.Mark.TheVariants.{Empty, Live, Broken}
 use Rattle.flag_rules.specs.declared.parts.Job.{Job}
@@ -14,7 +13,7 @@ use Rattle.flag_rules.specs.declared.parts.Job.TheVariants.{Idle, Taking, Puttin
 use Rattle.flag_rules.specs.Flags.{State, mark_at, job_of, with_job, start_take, dropped, break_mark, taken, put_by, turn_by, turned, put_answer, answer_of_check, answer_by, answer, is_full, Full, MarkFits, JobFits, Sound}
 use Rattle.flag_rules.specs.Means.{link_of, links_of, activity_in, means}
 use Rattle.shelf.proofs.Basics.{get_d_mapped, own_below}
-use Rattle.flag_rules.proofs.Lists.{take_set_in, length_links, link_at_lem, links_emptied, links_set, links_broken, check_is}
+use Rattle.flag_rules.proofs.Lists.{take_set_in, link_at_lem, links_emptied, links_set, links_broken, check_is}
 
 module _ {R : Type 0} (d : R) (s : State R) where
   -- a party's activity is that of its job, and a link that of its mark and block

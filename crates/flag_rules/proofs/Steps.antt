@@ -1,19 +1,19 @@
 -- Every step of the flag shelf leads to a state that it can be in.
-use Rattle.std.proofs.Common.{◌≡◌, ℕ, ◌+◌, ◌*◌, ◌<◌, ◌≤◌, ◌≢◌, ◌⊎◌, List, [], ◌∷◌, map, length, get_or, set, sym, refl, ap, ◌∙◌, subst, inl, inr, ⊎_elim, arith}
+use Rattle.std.proofs.Common.{◌≡◌, ℕ, ◌+◌, ◌<◌, ◌≢◌, List, map, length, get_or, set, sym, refl, ap, ◌∙◌, subst, ⊎_elim, arith}
 use mathlib.Core.HLevel.{×_prop}
 use mathlib.Core.Logic.{∥∥₁_elim}
 use native.Mathlib.Nat.{ℕ_set}
 use native.Mathlib.Bridge.{le_prop}
 use Rattle.std.proofs.lemmas.List.{length-set, length-map, get_or-set_same, get_or-set_other, set-get_or}
 use Rattle.std.proofs.lemmas.Bool.{cases_eq}
-use Rattle.plan.specs.Plans.{width, need, Small}
+use Rattle.plan.specs.Plans.{width}
 use Rattle.plan.specs.declared.check.Plan.{Plan}
 use Rattle.shelf.specs.Meaning.{Own}
 use Rattle.flag_rules.specs.declared.parts.Mark.{Mark}
 use Rattle.flag_rules.specs.declared.parts.Mark.TheVariants.{Empty, Live, Broken}
 use Rattle.flag_rules.specs.declared.parts.Job.{Job}
 use Rattle.flag_rules.specs.declared.parts.Job.TheVariants.{Idle, Taking, Putting, Checking}
-use Rattle.flag_rules.specs.Flags.{State, mark_at, job_of, with_job, start_take, start_put, start_check, dropped, break_mark, taken, put_by, turn_by, turned, Full, MarkFits, JobFits, Sound}
+use Rattle.flag_rules.specs.Flags.{State, mark_at, job_of, with_job, start_take, dropped, break_mark, taken, put_by, turn_by, turned, Full, MarkFits, JobFits, Sound}
 use Rattle.shelf.proofs.Basics.{get_d_mapped, own_apart, own_below}
 use Rattle.flag_rules.proofs.Lists.{broken_full, broken_fits}
 

@@ -1,6 +1,6 @@
 -- The exact rules of the flag shelf: channel c's reading in block c, that of link j in block C + j, and a mark for each link.
 -- Each operation comes into force and ends in one turn. A link is given by its number among the links of all parties.
-use Rattle.std.specs.Prelude.{◌≡◌, ℕ, ◌+◌, ◌<◌, ◌≤◌, Bool, true, false, cond, ◌≢◌, List, [], ◌∷◌, ◌++◌, map, length, drop, replicate, ◌==◌, slice_index_or, slice_set}
+use Rattle.std.specs.Prelude.{◌≡◌, ℕ, ◌+◌, ◌<◌, ◌≤◌, Bool, true, false, cond, List, [], ◌++◌, map, length, drop, replicate, ◌==◌, slice_index_or, slice_set}
 use Rattle.plan.specs.Plans.{width, need, plan_verdict, Small}
 use Rattle.plan.specs.Refusals.{Outcome, accepted, refused}
 use Rattle.plan.specs.declared.check.Plan.{Plan}
