@@ -1,12 +1,11 @@
 -- A flag shelf's fields fit each other, and go on to, on the lists that they hold.
-use Rattle.std.proofs.Common.{◌≡◌, ℕ, ◌+◌, ◌*◌, ◌^◌, ◌<◌, ◌≤◌, Bool, true, false, cond, not, ltb, List, [], ◌∷◌, ◌++◌, map, length, get_or, drop, set, sym, refl, ap, ◌∙◌, subst, arith}
+use Rattle.std.proofs.Common.{◌≡◌, ℕ, ◌+◌, ◌^◌, ◌<◌, true, false, cond, not, ltb, List, [], ◌∷◌, map, length, get_or, drop, set, sym, refl, ap, ◌∙◌, subst, arith}
 use Rattle.flag_rules.proofs.AsShelf.{flag_shelf_rules}
 use Rattle.std.proofs.lemmas.List.{get_or-drop}
 use Rattle.std.specs.List.{AllByRecursion as All}
 use Rattle.std.proofs.lemmas.Nat.{mul-le}
 use Rattle.std.proofs.lemmas.Bool.{ltb-true, lt-ltb, cond-true, cond-false}
 use Rattle.plan.specs.Refusals.{Test, accepted, refused, unless_refused}
-use Rattle.plan.specs.Plans.{width}
 use Rattle.plan.specs.declared.check.Plan.{Plan}
 use Rattle.shelf.specs.Meaning.{flat, Own, link_at, activity_of}
 use Rattle.shelf.specs.Calls.{known, free, has_link, full, reading_on, is_idle, tests_of, Turn, leaves, turn_answer, after}
@@ -16,7 +15,7 @@ use Rattle.shelf.proofs.After.{own_flat, idle_is, full_is}
 use Rattle.flag_rules.specs.declared.parts.Mark.{Mark}
 use Rattle.flag_rules.specs.declared.parts.Mark.TheVariants.{Empty, Live, Broken}
 use Rattle.flag_rules.specs.declared.parts.Job.{Job}
-use Rattle.flag_rules.specs.declared.parts.Job.TheVariants.{Idle, Taking, Putting, Checking}
+use Rattle.flag_rules.specs.declared.parts.Job.TheVariants.{Idle, Taking}
 use Rattle.flag_rules.specs.Flags.{State, state_of, mark_at, job_of, with_job, break_mark, taken, put_by, turn_by, turned, answer_by, Full, JobFits, Sound}
 use Rattle.flag_rules.specs.Means.{means, link_of, activity_in}
 use Rattle.flag_rules.proofs.Meant.{activity_is, link_is, idle_from, full_from}

@@ -1,8 +1,8 @@
 -- No call of a flag shelf touches a block beyond its need.
-use Rattle.std.proofs.Common.{◌≡◌, ℕ, ◌+◌, ◌<◌, ◌≤◌, List, [], ◌∷◌, length, get_or, drop, set, sym, refl, ap, ◌∙◌, subst, arith}
+use Rattle.std.proofs.Common.{◌≡◌, ℕ, ◌+◌, ◌<◌, List, [], ◌∷◌, length, get_or, drop, set, sym, refl, ap, ◌∙◌, subst, arith}
 use Rattle.std.proofs.lemmas.List.{length-set, drop-set-lt}
-use Rattle.plan.specs.Plans.{need, width}
-use Rattle.plan.specs.Refusals.{Outcome, accepted, refused}
+use Rattle.plan.specs.Plans.{need}
+use Rattle.plan.specs.Refusals.{Outcome}
 use Rattle.plan.specs.declared.check.Plan.{Plan}
 use Rattle.plan.specs.declared.check.ShelfType.TheVariants.{Flag}
 use Rattle.shelf.specs.Calls.{Call, Take, Put, Check, Drop, Look, Turn, tests_of, leaves, state_after, after}
@@ -16,7 +16,7 @@ use Rattle.flag_rules.specs.declared.parts.Mark.{Mark}
 use Rattle.flag_rules.specs.declared.parts.Mark.TheVariants.{Empty, Live, Broken}
 use Rattle.flag_rules.specs.declared.parts.Job.{Job}
 use Rattle.flag_rules.specs.declared.parts.Job.TheVariants.{Idle, Taking, Putting, Checking}
-use Rattle.flag_rules.specs.Flags.{State, mark_at, job_of, put_by, turn_by, turned, MarkFits, JobFits, Sound}
+use Rattle.flag_rules.specs.Flags.{State, mark_at, job_of, put_by, turn_by, MarkFits, JobFits, Sound}
 use Rattle.flag_rules.specs.Means.{means}
 use Rattle.shelf.proofs.Basics.{own_below}
 use Rattle.flag_rules.proofs.AsShelf.{flag_shelf_rules}

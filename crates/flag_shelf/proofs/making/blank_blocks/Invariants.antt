@@ -1,4 +1,4 @@
-use Rattle.std.proofs.Common.{◌≡◌, ◌++◌, length, drop, replicate}
+use Rattle.std.proofs.Common.{◌≡◌, ◌++◌, drop, replicate}
 use Rattle.flag_shelf.proofs.making.blank_blocks.Given as goal
 
 abbrev pub invariant-loop-b : goal.invariant-loop-b

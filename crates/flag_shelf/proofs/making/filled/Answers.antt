@@ -4,5 +4,5 @@ use Rattle.flag_shelf.proofs.making.filled.Goals as goal
 
 pub loop-i-preserved : goal.loop-i-preserved
 loop-i-preserved g c =
-    c.in-ok-push.ensures.items
-    ∙ (ap (λ (xs : List g.row.T.Denot). xs ++ (c.args.x ∷ [])) c.loop-i.invariant ∙ replicate_more c.loop-i.-i c.args.x)
+    c.in_ok-push.ensures.items
+    ∙ (ap (λ (xs : List g.row.T.Denot). xs ++ (c.args.x ∷ [])) c.loop-i.invariant ∙ replicate_more c.loop-i._i c.args.x)

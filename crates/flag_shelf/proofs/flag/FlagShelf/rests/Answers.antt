@@ -8,5 +8,5 @@ use Rattle.flag_shelf.proofs.flag.FlagShelf.rests.Goals as goal
 
 pub returns : goal.returns
 returns g c =
-    c.is-rest.ensures ∙ (ap (λ (job : Job g.row.R.Denot). is_idle (activity_in job)) c.job.ensures
+    c.is_rest.ensures ∙ (ap (λ (job : Job g.row.R.Denot). is_idle (activity_in job)) c.job.ensures
     ∙ ap is_idle (sym (activity_is g.R.Reading.kind.blank (flag_state c.args.self.now) c.args.party)))

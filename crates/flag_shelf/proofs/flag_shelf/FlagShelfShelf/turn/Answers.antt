@@ -1,5 +1,5 @@
-use Rattle.std.proofs.Common.{◌≡◌, refl}
-use Rattle.flag_rules.specs.declared.parts.Job.TheVariants.{Idle, Taking, Putting, Checking}
+use Rattle.std.proofs.Common.{refl}
+use Rattle.flag_rules.specs.declared.parts.Job.TheVariants.{Taking, Putting, Checking}
 use Rattle.flag_rules.specs.Flags.{answer}
 use Rattle.flag_shelf.specs.States.{flag_state}
 use Rattle.flag_shelf.proofs.Fit.{turn_refused, answer_given, state_after_lem, state_kept}
@@ -19,8 +19,8 @@ returns-in-Taking g c =
     let d = g.R.Reading.kind.blank in
     let s = flag_state c.args.self.now in
     record {
-      answer = answer_given d s c.args.party c.if-party-self.false (Taking c.in-Taking.at c.in-Taking.channel) refl c.in-Taking.ensures c.end-take.result c.end-take.ensures.answer;
-      shelf = state_after_lem d s c.args.party c.if-party-self.false (Taking c.in-Taking.at c.in-Taking.channel) refl c.in-Taking.ensures _ c.end-take.ensures.shelf;
+      answer = answer_given d s c.args.party c.if-party-self.false (Taking c.in-Taking.at c.in-Taking.channel) refl c.in-Taking.ensures c.end_take.result c.end_take.ensures.answer;
+      shelf = state_after_lem d s c.args.party c.if-party-self.false (Taking c.in-Taking.at c.in-Taking.channel) refl c.in-Taking.ensures _ c.end_take.ensures.shelf;
     }
 
 pub returns-in-Putting : goal.returns-in-Putting
@@ -28,8 +28,8 @@ returns-in-Putting g c =
     let d = g.R.Reading.kind.blank in
     let s = flag_state c.args.self.now in
     record {
-      answer = answer_given d s c.args.party c.if-party-self.false (Putting c.in-Putting.at c.in-Putting.reading) refl c.in-Putting.ensures c.end-put.result c.end-put.ensures.answer;
-      shelf = state_after_lem d s c.args.party c.if-party-self.false (Putting c.in-Putting.at c.in-Putting.reading) refl c.in-Putting.ensures _ c.end-put.ensures.shelf;
+      answer = answer_given d s c.args.party c.if-party-self.false (Putting c.in-Putting.at c.in-Putting.reading) refl c.in-Putting.ensures c.end_put.result c.end_put.ensures.answer;
+      shelf = state_after_lem d s c.args.party c.if-party-self.false (Putting c.in-Putting.at c.in-Putting.reading) refl c.in-Putting.ensures _ c.end_put.ensures.shelf;
     }
 
 pub returns-in-Checking : goal.returns-in-Checking
@@ -37,6 +37,6 @@ returns-in-Checking g c =
     let d = g.R.Reading.kind.blank in
     let s = flag_state c.args.self.now in
     record {
-      answer = answer_given d s c.args.party c.if-party-self.false (Checking c.in-Checking.at) refl c.in-Checking.ensures c.end-check.result c.end-check.ensures.answer;
-      shelf = state_after_lem d s c.args.party c.if-party-self.false (Checking c.in-Checking.at) refl c.in-Checking.ensures _ c.end-check.ensures.shelf;
+      answer = answer_given d s c.args.party c.if-party-self.false (Checking c.in-Checking.at) refl c.in-Checking.ensures c.end_check.result c.end_check.ensures.answer;
+      shelf = state_after_lem d s c.args.party c.if-party-self.false (Checking c.in-Checking.at) refl c.in-Checking.ensures _ c.end_check.ensures.shelf;
     }
