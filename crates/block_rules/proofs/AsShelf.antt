@@ -5,9 +5,9 @@ use Rattle.std.proofs.lemmas.Bool.{eq-eqb}
 use Rattle.plan.specs.Plans.{patience}
 use Rattle.plan.specs.declared.check.ShelfType.TheVariants.{Block}
 use Rattle.shelf.specs.declared.answer.Answer.{Answer}
-use Rattle.shelf.specs.Meaning.{vacant, holds, Operation, put, check, Activity, idle, waits, in_force, link_at, activity_of, comes, Sizes, Stores, is_on, take as take_op}
+use Rattle.shelf.specs.Meaning.{vacant, holds, Operation, put, check, Activity, idle, waits, in_force, link_at, activity_of, Sizes, Stores, is_on, take as take_op}
 use Rattle.shelf.specs.Rules.{Rules}
-use Rattle.shelf.specs.Calls.{is_idle, is_vacant, full}
+use Rattle.shelf.specs.Calls.{is_idle, is_vacant}
 use Rattle.shelf.proofs.Basics.{get_d_mapped}
 use Rattle.block_rules.specs.declared.parts.Hold.{Hold}
 use Rattle.block_rules.specs.declared.parts.Hold.TheVariants.{Empty, On}
@@ -17,7 +17,6 @@ use Rattle.block_rules.specs.declared.parts.Job.TheVariants.{Idle, Taking, Putti
 use Rattle.block_rules.specs.Blocks.{Party, State, unused, nobody, link, party, current_of, with_job, emptied, channel_held, is_held, rests, is_live, start_take, start_put, start_check, dropped, after_put, turn_put, turn_job, turned, answer}
 use Rattle.block_rules.specs.Sound.{Sound}
 use Rattle.block_rules.specs.Means.{link_of, link_from, activity_in, activity_from, means, turns_left}
-use Rattle.block_rules.specs.Places.{puts}
 use Rattle.block_rules.proofs.Kept.{turn_same, plan_put}
 use Rattle.block_rules.proofs.Left.{channel_in, PutsLive, most, least, falls, party_left, link_left, put_left_lem, drop_left, kept}
 use Rattle.block_rules.proofs.Starting.{means_take, means_put, means_check, means_drop}

@@ -5,7 +5,6 @@ use Rattle.std.proofs.lemmas.Bool.{eqb-true, cases_eq, cases_lt, ltb-true, ltb-f
 use Rattle.plan.specs.Plans.{width, need}
 use Rattle.plan.specs.declared.check.ShelfType.TheVariants.{Block}
 use Rattle.shelf.specs.Meaning.{Own}
-use Rattle.shelf.specs.Calls.{known}
 use Rattle.shelf.proofs.Basics.{own_below}
 use Rattle.block_rules.specs.declared.parts.Hold.{Hold}
 use Rattle.block_rules.specs.declared.parts.Hold.TheVariants.{Empty, On}

@@ -7,7 +7,6 @@ use native.Mathlib.Bridge.{le_prop}
 use native.Mathlib.Decide.{ℕ_discrete}
 use Rattle.plan.specs.declared.check.Plan.{Plan}
 use Rattle.shelf.specs.Meaning.{Own}
-use Rattle.shelf.specs.Calls.{known}
 use Rattle.block_rules.specs.declared.parts.Hold.{Hold}
 use Rattle.block_rules.specs.declared.parts.Hold.TheVariants.{Empty, On}
 use Rattle.block_rules.specs.declared.parts.LinkState.{LinkState}

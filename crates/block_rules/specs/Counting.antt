@@ -1,5 +1,5 @@
 -- How often a block stands where.
-use Rattle.std.specs.Prelude.{ℕ, ◌+◌, cond, List, [], ◌∷◌, sum_by, ◌==◌, nat_lt}
+use Rattle.std.specs.Prelude.{ℕ, ◌+◌, cond, List, sum_by, ◌==◌, nat_lt}
 use Rattle.block_rules.specs.Blocks.{Party, in_hand, State}
 
 abbrev pub same : ℕ → ℕ → ℕ

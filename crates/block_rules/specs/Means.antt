@@ -1,5 +1,5 @@
 -- What a state of the block shelf means, and the turns that a running operation may still spend.
-use Rattle.std.specs.Prelude.{◌≡◌, ℕ, ◌+◌, ◌-◌, Bool, true, false, List, [], ◌∷◌, map, ◌==◌, slice_index, slice_index_or}
+use Rattle.std.specs.Prelude.{ℕ, ◌+◌, ◌-◌, Bool, true, false, List, [], ◌∷◌, map, ◌==◌, slice_index, slice_index_or}
 use Rattle.plan.specs.Plans.{width}
 use Rattle.shelf.specs.declared.answer.Answer.TheVariants as answers
 use Rattle.shelf.specs.Meaning.{Link, vacant, holds, Activity, idle, waits, in_force, take as take_op, put, check, Meaning}

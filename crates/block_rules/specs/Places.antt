@@ -1,9 +1,8 @@
 -- Where blocks stand, and which blocks nobody touches.
-use Rattle.std.specs.Prelude.{◌≡◌, ℕ, ◌+◌, ◌<◌, ◌≤◌, Bool, true, false, List, [], ◌∷◌, length, Some, None, slice_set}
+use Rattle.std.specs.Prelude.{◌≡◌, ℕ, ◌+◌, ◌<◌, ◌≤◌, Bool, true, false, List, length, Some, slice_set}
 use Rattle.plan.specs.Plans.{width, need}
 use Rattle.plan.specs.Refusals.{Outcome, accepted, refused}
 use Rattle.plan.specs.declared.check.ShelfType.TheVariants.{Block}
-use Rattle.block_rules.specs.declared.parts.Hold.TheVariants.{Empty, On}
 use Rattle.block_rules.specs.declared.parts.Job.{Job}
 use Rattle.block_rules.specs.declared.parts.Job.TheVariants.{Idle, Taking, Putting, Scanning, Checking}
 use Rattle.block_rules.specs.declared.parts.Place.{Place}

@@ -1,5 +1,5 @@
 -- The states that a block shelf can be in.
-use Rattle.std.specs.Prelude.{◌≡◌, ℕ, ◌+◌, ◌<◌, ◌≤◌, List, [], ◌∷◌, length, Some, None}
+use Rattle.std.specs.Prelude.{◌≡◌, ℕ, ◌+◌, ◌<◌, ◌≤◌, length, Some}
 use Rattle.plan.specs.Plans.{width, need, Small}
 use Rattle.plan.specs.declared.check.ShelfType.TheVariants.{Block}
 use Rattle.shelf.specs.Meaning.{Own}

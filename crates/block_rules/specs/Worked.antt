@@ -1,5 +1,5 @@
 -- Worked runs of the block shelf: two parties, one link each, one channel, tallies as plain numbers.
-use Rattle.std.specs.Prelude.{◌≡◌, ℕ, zero, suc, List, [], ◌∷◌, replicate, slice_index_or}
+use Rattle.std.specs.Prelude.{◌≡◌, ℕ, zero, suc, [], ◌∷◌, replicate, slice_index_or}
 use Rattle.plan.specs.Plans.{plan_verdict}
 use Rattle.plan.specs.Refusals.{accepted, refused}
 use Rattle.plan.specs.declared.check.Plan.{Plan}
