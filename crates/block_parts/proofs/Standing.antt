@@ -6,7 +6,7 @@ use Rattle.block_parts.specs.Seats.{party_of, place_with}
 use Rattle.block_rules.specs.declared.parts.Place.{Place}
 use Rattle.block_rules.specs.declared.parts.Place.TheVariants.{Ready, Retired, InHand}
 use Rattle.block_rules.specs.Blocks.{in_hand, State, party, among}
-use Rattle.block_rules.specs.Counting.{same, stands_with}
+use Rattle.block_rules.specs.Counting.{stands_with}
 use Rattle.block_rules.specs.Places.{StandsAt}
 use Rattle.block_rules.proofs.Placed.{among_yes, among_not}
 use Rattle.block_parts.proofs.Members.{among_reverse}

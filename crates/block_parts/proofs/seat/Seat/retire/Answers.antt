@@ -1,13 +1,13 @@
-use Rattle.std.proofs.Common.{◌≡◌, reverse, sym, ap}
+use Rattle.std.proofs.Common.{reverse, sym, ap}
 use Rattle.block_rules.specs.Blocks.{after_put, after_put_answer}
 use Rattle.block_parts.specs.Lists.{blocks_in}
 use Rattle.block_parts.proofs.Stacks.{appended, none_ready, idle_then, stored_then}
 use Rattle.block_parts.proofs.seat.Seat.retire.Goals as goal
 
-pub returns-then-is-empty : goal.returns-then-is-empty
-returns-then-is-empty c =
+pub returns-then-is_empty : goal.returns-then-is_empty
+returns-then-is_empty c =
     let v = c.args.self.now in
-    let none = none_ready (blocks_in v.ready) (sym c.if-is-empty.ensures) in
+    let none = none_ready (blocks_in v.ready) (sym c.if-is_empty.ensures) in
     record {
       answer = sym (ap after_put_answer none);
       party = λ in_room.
@@ -18,7 +18,7 @@ returns-then-is-empty c =
 pub returns : goal.returns
 returns c =
     let v = c.args.self.now in
-    let some = sym c.if-is-empty.ensures in
+    let some = sym c.if-is_empty.ensures in
     record {
       answer = stored_then (blocks_in v.ready) some;
       party = λ in_room.

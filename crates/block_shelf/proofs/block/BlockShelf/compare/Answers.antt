@@ -5,8 +5,8 @@ use Rattle.block_rules.specs.Blocks.{holding}
 use Rattle.block_shelf.proofs.Fit.{take_link, held_sound, again_sound}
 use Rattle.block_shelf.proofs.block.BlockShelf.compare.Goals as goal
 
-pub set-link-requires : goal.set-link-requires
-set-link-requires g c =
+pub set_link-requires : goal.set_link-requires
+set_link-requires g c =
     let v = c.args.self.now in
     let same = sym c.current.ensures ∙ (c.if-current-link.true ∙ ap (λ (l : LinkState). l.seen) c.link-link.ensures) in
     record {
@@ -16,8 +16,8 @@ set-link-requires g c =
           (c.holding.ensures ∙ ap (λ (l : LinkState). holding l c.args.channel) c.link-link.ensures);
     }
 
-pub set-job-requires : goal.set-job-requires
-set-job-requires g c =
+pub set_job-requires : goal.set_job-requires
+set_job-requires g c =
     let v = c.args.self.now in
     record {
       there = c.requires.there;

@@ -6,4 +6,4 @@ use Rattle.block_shelf.specs.States.{block_state}
 use Rattle.block_shelf.proofs.block.BlockShelf.is_full.Goals as goal
 
 pub returns : goal.returns
-returns g c = c.is-held.ensures ∙ (ap (λ (l : LinkState). is_held l.hold) c.link.ensures ∙ held_is g.R.Reading.kind.blank (block_state c.args.self.now) c.args.at)
+returns g c = c.is_held.ensures ∙ (ap (λ (l : LinkState). is_held l.hold) c.link.ensures ∙ held_is g.R.Reading.kind.blank (block_state c.args.self.now) c.args.at)

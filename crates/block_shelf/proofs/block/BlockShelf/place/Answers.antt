@@ -14,10 +14,10 @@ returns-in-Some g c =
     let s = block_state c.args.self.now in
     told_place s (sound_out s c.args.self.now.sound) c.args.block (Current c.in-Some.channel) c.in-Some.ensures
 
-pub returns-in-Some-place-with-party : goal.returns-in-Some-place-with-party
-returns-in-Some-place-with-party g c =
+pub returns-in-Some-place_with_party : goal.returns-in-Some-place_with_party
+returns-in-Some-place_with_party g c =
     let s = block_state c.args.self.now in
-    told_place s (sound_out s c.args.self.now.sound) c.args.block c.in-Some-place-with-party.place c.in-Some-place-with-party.ensures
+    told_place s (sound_out s c.args.self.now.sound) c.args.block c.in-Some-place_with_party.place c.in-Some-place_with_party.ensures
 
 pub returns-in-None : goal.returns-in-None
 returns-in-None g c =

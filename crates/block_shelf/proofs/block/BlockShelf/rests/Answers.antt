@@ -5,4 +5,4 @@ use Rattle.block_shelf.specs.States.{block_state}
 use Rattle.block_shelf.proofs.block.BlockShelf.rests.Goals as goal
 
 pub returns : goal.returns
-returns g c = c.is-rest.ensures ∙ (ap rests c.job.ensures ∙ rests_is g.R.Reading.kind.blank (block_state c.args.self.now) c.args.party)
+returns g c = c.is_rest.ensures ∙ (ap rests c.job.ensures ∙ rests_is g.R.Reading.kind.blank (block_state c.args.self.now) c.args.party)

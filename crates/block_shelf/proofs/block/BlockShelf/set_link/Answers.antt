@@ -3,15 +3,15 @@ use Rattle.block_rules.specs.Blocks.{Party, with_job}
 use Rattle.block_shelf.proofs.Fit.{seated, allowed_then, seat_there}
 use Rattle.block_shelf.proofs.block.BlockShelf.set_link.Goals as goal
 
-pub index-mut-requires-2 : goal.index-mut-requires-2
-index-mut-requires-2 g c =
+pub index_mut-requires-2 : goal.index_mut-requires-2
+index_mut-requires-2 g c =
     let v = c.args.self.now in
     omega (arith, seat_there v.plan _ (vec_items v.current) (vec_items v.links) (vec_items v.seats) v.sound c.args.party c.requires.there, v.seats.ok.0)
 
-pub invariant-of-self : goal.invariant-of-self
-invariant-of-self g c =
+pub invariant_of-self : goal.invariant_of-self
+invariant_of-self g c =
     let v = c.args.self.now in (
-      allowed_then _ _ (seated v.plan v.row.blocks.now (vec_items v.current) (set (vec_items v.links) c.args.at c.args.link) (vec_items v.seats) c.args.party c.index-mut-2.result.now _ (λ (q : Party). with_job q c.args.job) c.index-mut-2.ensures.value
+      allowed_then _ _ (seated v.plan v.row.blocks.now (vec_items v.current) (set (vec_items v.links) c.args.at c.args.link) (vec_items v.seats) c.args.party c.index_mut-2.result.now _ (λ (q : Party). with_job q c.args.job) c.index_mut-2.ensures.value
           (seat_there v.plan _ (vec_items v.current) (vec_items v.links) (vec_items v.seats) v.sound c.args.party c.requires.there) refl) c.requires.allowed,
       tt,
     )
@@ -19,5 +19,5 @@ invariant-of-self g c =
 pub returns : goal.returns
 returns g c =
     let v = c.args.self.now in
-    seated v.plan v.row.blocks.now (vec_items v.current) (set (vec_items v.links) c.args.at c.args.link) (vec_items v.seats) c.args.party c.index-mut-2.result.now _ (λ (q : Party). with_job q c.args.job) c.index-mut-2.ensures.value
+    seated v.plan v.row.blocks.now (vec_items v.current) (set (vec_items v.links) c.args.at c.args.link) (vec_items v.seats) c.args.party c.index_mut-2.result.now _ (λ (q : Party). with_job q c.args.job) c.index_mut-2.ensures.value
     (seat_there v.plan _ (vec_items v.current) (vec_items v.links) (vec_items v.seats) v.sound c.args.party c.requires.there) refl

@@ -3,30 +3,30 @@ use Rattle.std.proofs.lemmas.Result.{err_from_is_err_and}
 use Rattle.block_shelf.proofs.Starts.{held_there, put_sound, put_granted, puts_then, put_refused, put_stays}
 use Rattle.block_shelf.proofs.block_shelf.BlockShelfShelf.start_put.Goals as goal
 
-pub returns-in-err-at : goal.returns-in-err-at
-returns-in-err-at g c =
+pub returns-in_err-at : goal.returns-in_err-at
+returns-in_err-at g c =
     let v = c.args.self.now in
-    let p = err_from_is_err_and c.from-residual.result c.from-residual.ensures.1 in
-    let e = c.in-err-at.ensures.answer in
+    let p = err_from_is_err_and c.from_residual.result c.from_residual.ensures.1 in
+    let e = c.in_err-at.ensures.answer in
     record {
-      answer = put_refused g.R.Reading.kind.blank v.plan v.row.blocks.now (vec_items v.current) (vec_items v.links) (vec_items v.seats) v.sound c.args.party c.args.link _ p.0 c.from-residual.result p.1 p.2 e c.args.reading;
-      shelf = put_stays g.R.Reading.kind.blank v.plan v.row.blocks.now (vec_items v.current) (vec_items v.links) (vec_items v.seats) v.sound c.args.party c.args.link _ p.0 c.from-residual.result p.1 p.2 e c.args.reading;
+      answer = put_refused g.R.Reading.kind.blank v.plan v.row.blocks.now (vec_items v.current) (vec_items v.links) (vec_items v.seats) v.sound c.args.party c.args.link _ p.0 c.from_residual.result p.1 p.2 e c.args.reading;
+      shelf = put_stays g.R.Reading.kind.blank v.plan v.row.blocks.now (vec_items v.current) (vec_items v.links) (vec_items v.seats) v.sound c.args.party c.args.link _ p.0 c.from_residual.result p.1 p.2 e c.args.reading;
     }
 
-pub take-up-requires : goal.take-up-requires
-take-up-requires g c =
+pub take_up-requires : goal.take_up-requires
+take_up-requires g c =
     let v = c.args.self.now in
-    let e = c.in-ok-at.ensures.answer in
+    let e = c.in_ok-at.ensures.answer in
     record {
-      there = held_there g.R.Reading.kind.blank v.plan v.row.blocks.now (vec_items v.current) (vec_items v.links) (vec_items v.seats) v.sound c.args.party c.args.link c.in-ok-at.at e;
-      allowed = put_sound g.R.Reading.kind.blank v.plan v.row.blocks.now (vec_items v.current) (vec_items v.links) (vec_items v.seats) v.sound c.args.party c.args.link c.in-ok-at.at e c.args.reading;
+      there = held_there g.R.Reading.kind.blank v.plan v.row.blocks.now (vec_items v.current) (vec_items v.links) (vec_items v.seats) v.sound c.args.party c.args.link c.in_ok-at.at e;
+      allowed = put_sound g.R.Reading.kind.blank v.plan v.row.blocks.now (vec_items v.current) (vec_items v.links) (vec_items v.seats) v.sound c.args.party c.args.link c.in_ok-at.at e c.args.reading;
     }
 
 pub returns : goal.returns
 returns g c =
     let v = c.args.self.now in
-    let e = c.in-ok-at.ensures.answer in
+    let e = c.in_ok-at.ensures.answer in
     record {
-      answer = put_granted g.R.Reading.kind.blank v.plan v.row.blocks.now (vec_items v.current) (vec_items v.links) (vec_items v.seats) v.sound c.args.party c.args.link c.in-ok-at.at e c.args.reading;
-      shelf = puts_then g.R.Reading.kind.blank v.plan v.row.blocks.now (vec_items v.current) (vec_items v.links) (vec_items v.seats) v.sound c.args.party c.args.link c.in-ok-at.at e c.args.reading _ c.take-up.ensures;
+      answer = put_granted g.R.Reading.kind.blank v.plan v.row.blocks.now (vec_items v.current) (vec_items v.links) (vec_items v.seats) v.sound c.args.party c.args.link c.in_ok-at.at e c.args.reading;
+      shelf = puts_then g.R.Reading.kind.blank v.plan v.row.blocks.now (vec_items v.current) (vec_items v.links) (vec_items v.seats) v.sound c.args.party c.args.link c.in_ok-at.at e c.args.reading _ c.take_up.ensures;
     }

@@ -18,8 +18,8 @@ returns-in-Taking g c =
     let d = g.R.Reading.kind.blank in
     let s = block_state c.args.self.now in
     record {
-      answer = turn_answered d s c.args.party c.if-party-self.false (Taking c.in-Taking.at c.in-Taking.channel c.in-Taking.access) refl c.in-Taking.ensures c.turn-take.result c.turn-take.ensures.answer;
-      shelf = turn_done d s c.args.party c.if-party-self.false (Taking c.in-Taking.at c.in-Taking.channel c.in-Taking.access) refl c.in-Taking.ensures _ c.turn-take.ensures.shelf;
+      answer = turn_answered d s c.args.party c.if-party-self.false (Taking c.in-Taking.at c.in-Taking.channel c.in-Taking.access) refl c.in-Taking.ensures c.turn_take.result c.turn_take.ensures.answer;
+      shelf = turn_done d s c.args.party c.if-party-self.false (Taking c.in-Taking.at c.in-Taking.channel c.in-Taking.access) refl c.in-Taking.ensures _ c.turn_take.ensures.shelf;
     }
 
 pub returns-in-Putting : goal.returns-in-Putting
@@ -27,8 +27,8 @@ returns-in-Putting g c =
     let d = g.R.Reading.kind.blank in
     let s = block_state c.args.self.now in
     record {
-      answer = turn_answered d s c.args.party c.if-party-self.false (Putting c.in-Putting.at c.in-Putting.block) refl c.in-Putting.ensures c.turn-put.result c.turn-put.ensures.answer;
-      shelf = turn_done d s c.args.party c.if-party-self.false (Putting c.in-Putting.at c.in-Putting.block) refl c.in-Putting.ensures _ c.turn-put.ensures.shelf;
+      answer = turn_answered d s c.args.party c.if-party-self.false (Putting c.in-Putting.at c.in-Putting.block) refl c.in-Putting.ensures c.turn_put.result c.turn_put.ensures.answer;
+      shelf = turn_done d s c.args.party c.if-party-self.false (Putting c.in-Putting.at c.in-Putting.block) refl c.in-Putting.ensures _ c.turn_put.ensures.shelf;
     }
 
 pub returns-in-Scanning : goal.returns-in-Scanning
@@ -36,8 +36,8 @@ returns-in-Scanning g c =
     let d = g.R.Reading.kind.blank in
     let s = block_state c.args.self.now in
     record {
-      answer = turn_answered d s c.args.party c.if-party-self.false (Scanning c.in-Scanning.at c.in-Scanning.next) refl c.in-Scanning.ensures c.turn-scan.result c.turn-scan.ensures.answer;
-      shelf = turn_done d s c.args.party c.if-party-self.false (Scanning c.in-Scanning.at c.in-Scanning.next) refl c.in-Scanning.ensures _ c.turn-scan.ensures.shelf;
+      answer = turn_answered d s c.args.party c.if-party-self.false (Scanning c.in-Scanning.at c.in-Scanning.next) refl c.in-Scanning.ensures c.turn_scan.result c.turn_scan.ensures.answer;
+      shelf = turn_done d s c.args.party c.if-party-self.false (Scanning c.in-Scanning.at c.in-Scanning.next) refl c.in-Scanning.ensures _ c.turn_scan.ensures.shelf;
     }
 
 pub returns-in-Checking : goal.returns-in-Checking
@@ -45,6 +45,6 @@ returns-in-Checking g c =
     let d = g.R.Reading.kind.blank in
     let s = block_state c.args.self.now in
     record {
-      answer = turn_answered d s c.args.party c.if-party-self.false (Checking c.in-Checking.at) refl c.in-Checking.ensures c.turn-check.result c.turn-check.ensures.answer;
-      shelf = turn_done d s c.args.party c.if-party-self.false (Checking c.in-Checking.at) refl c.in-Checking.ensures _ c.turn-check.ensures.shelf;
+      answer = turn_answered d s c.args.party c.if-party-self.false (Checking c.in-Checking.at) refl c.in-Checking.ensures c.turn_check.result c.turn_check.ensures.answer;
+      shelf = turn_done d s c.args.party c.if-party-self.false (Checking c.in-Checking.at) refl c.in-Checking.ensures _ c.turn_check.ensures.shelf;
     }
