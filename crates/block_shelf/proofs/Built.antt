@@ -9,7 +9,6 @@ use Rattle.plan.specs.declared.check.ShelfType.TheVariants.{Block}
 use Rattle.shelf.specs.Rules.{Fresh}
 use Rattle.shelf.proofs.Ranges.{plan_accepted, range_small}
 use Rattle.block_parts.specs.declared.seat.Seat.{Seat}
-use Rattle.block_parts.specs.Lists.{room}
 use Rattle.block_parts.specs.Seats.{party_of}
 use Rattle.block_rules.specs.declared.parts.LinkState.{LinkState}
 use Rattle.block_rules.specs.Blocks.{share, Party, State, state_of, unused, blocks_from, fresh_party, fresh_parties, no_plan, made_by, made}

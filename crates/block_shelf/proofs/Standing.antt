@@ -14,8 +14,7 @@ use Rattle.block_rules.specs.Sound.{Sound}
 use Rattle.block_rules.specs.Places.{StandsAt, PlaceTold}
 use Rattle.block_shelf.specs.Laws.{PlacesStay, HeldBlocksStay, ChannelTold, PartyTold}
 use Rattle.block_rules.proofs.AsShelf.{block_shelf_rules}
-use Rattle.block_rules.proofs.Left.{most}
-use Rattle.block_rules.proofs.Placed.{none_there, none_with, one_only, placed_known, not_placed, placed, safe}
+use Rattle.block_rules.proofs.Placed.{none_there, none_with, one_only, placed_known, not_placed, placed}
 use Rattle.block_rules.proofs.Writing.{call_writes, call_untouched, held_safe, call_spares}
 
 module _ {R : Type 0} (s : State R) (ok : Sound s) (b : ℕ) where

@@ -1,4 +1,4 @@
-use Rattle.std.proofs.Common.{◌≡◌, ℕ, ◌+◌, ◌*◌, vec_items, sym, refl, ap, ◌∙◌, arith}
+use Rattle.std.proofs.Common.{ℕ, ◌+◌, ◌*◌, vec_items, ap, ◌∙◌, arith}
 use Rattle.block_rules.specs.Blocks.{fresh_party}
 use Rattle.block_rules.specs.Blocks as rules
 use Rattle.block_shelf.proofs.Built.{seats_fit, share_fits, parties_more}

@@ -22,4 +22,4 @@ returns-in-Some-place_with_party g c =
 pub returns-in-None : goal.returns-in-None
 returns-in-None g c =
     let s = block_state c.args.self.now in
-    told_nowhere s (sound_out s c.args.self.now.sound) c.args.block c.in-default.ensures c.in-None.ensures
+    told_nowhere s (sound_out s c.args.self.now.sound) c.args.block c.in_default.ensures c.in-None.ensures

@@ -10,11 +10,10 @@ index_mut-requires-2 g c =
 
 pub invariant_of-self : goal.invariant_of-self
 invariant_of-self g c =
-    let v = c.args.self.now in (
-      allowed_then _ _ (seated v.plan v.row.blocks.now (vec_items v.current) (set (vec_items v.links) c.args.at c.args.link) (vec_items v.seats) c.args.party c.index_mut-2.result.now _ (λ (q : Party). with_job q c.args.job) c.index_mut-2.ensures.value
-          (seat_there v.plan _ (vec_items v.current) (vec_items v.links) (vec_items v.seats) v.sound c.args.party c.requires.there) refl) c.requires.allowed,
-      tt,
-    )
+    let v = c.args.self.now in record {
+      sound = allowed_then _ _ (seated v.plan v.row.blocks.now (vec_items v.current) (set (vec_items v.links) c.args.at c.args.link) (vec_items v.seats) c.args.party c.index_mut-2.result.now _ (λ (q : Party). with_job q c.args.job) c.index_mut-2.ensures.value
+          (seat_there v.plan _ (vec_items v.current) (vec_items v.links) (vec_items v.seats) v.sound c.args.party c.requires.there) refl) c.requires.allowed;
+    }
 
 pub returns : goal.returns
 returns g c =

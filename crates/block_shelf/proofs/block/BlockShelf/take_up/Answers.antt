@@ -9,19 +9,17 @@ index_mut-requires g c =
 
 pub invariant_of-self : goal.invariant_of-self
 invariant_of-self g c =
-    let v = c.args.self.now in (
-      allowed_then _ _ (put_started v.plan v.row.blocks.now (vec_items v.current) (vec_items v.links) (vec_items v.seats) v.sound c.args.party c.requires.there c.index_mut.result.now c.take_up.new.self c.index_mut.ensures.value
-          c.args.at c.in-Some.ensures.party c.in-Some.block c.args.reading c.write.new.self.blocks.now c.in-Some.ensures.block c.write.ensures.blocks) c.requires.allowed,
-      tt,
-    )
+    let v = c.args.self.now in record {
+      sound = allowed_then _ _ (put_started v.plan v.row.blocks.now (vec_items v.current) (vec_items v.links) (vec_items v.seats) v.sound c.args.party c.requires.there c.index_mut.result.now c.take_up.new.self c.index_mut.ensures.value
+          c.args.at c.in-Some.ensures.party c.in-Some.block c.args.reading c.write.new.self.blocks.now c.in-Some.ensures.block c.write.ensures.blocks) c.requires.allowed;
+    }
 
-pub invariant_of-self-in-default : goal.invariant_of-self-in-default
-invariant_of-self-in-default g c =
-    let v = c.args.self.now in (
-      allowed_then _ _ (put_not_started v.plan v.row.blocks.now (vec_items v.current) (vec_items v.links) (vec_items v.seats) v.sound c.args.party c.requires.there c.index_mut.result.now c.take_up.new.self c.index_mut.ensures.value
-          c.args.at c.in-default.ensures.party c.args.reading c.in-default.ensures.block) c.requires.allowed,
-      tt,
-    )
+pub invariant_of-self-in_default : goal.invariant_of-self-in_default
+invariant_of-self-in_default g c =
+    let v = c.args.self.now in record {
+      sound = allowed_then _ _ (put_not_started v.plan v.row.blocks.now (vec_items v.current) (vec_items v.links) (vec_items v.seats) v.sound c.args.party c.requires.there c.index_mut.result.now c.take_up.new.self c.index_mut.ensures.value
+          c.args.at c.in_default.ensures.party c.args.reading c.in_default.ensures.block) c.requires.allowed;
+    }
 
 pub returns-in-Some : goal.returns-in-Some
 returns-in-Some g c =
@@ -29,8 +27,8 @@ returns-in-Some g c =
     put_started v.plan v.row.blocks.now (vec_items v.current) (vec_items v.links) (vec_items v.seats) v.sound c.args.party c.requires.there c.index_mut.result.now c.take_up.new.self c.index_mut.ensures.value
     c.args.at c.in-Some.ensures.party c.in-Some.block c.args.reading c.write.new.self.blocks.now c.in-Some.ensures.block c.write.ensures.blocks
 
-pub returns-in-default : goal.returns-in-default
-returns-in-default g c =
+pub returns-in_default : goal.returns-in_default
+returns-in_default g c =
     let v = c.args.self.now in
     put_not_started v.plan v.row.blocks.now (vec_items v.current) (vec_items v.links) (vec_items v.seats) v.sound c.args.party c.requires.there c.index_mut.result.now c.take_up.new.self c.index_mut.ensures.value
-    c.args.at c.in-default.ensures.party c.args.reading c.in-default.ensures.block
+    c.args.at c.in_default.ensures.party c.args.reading c.in_default.ensures.block

@@ -1,4 +1,4 @@
-use Rattle.std.proofs.Common.{◌≡◌, true, false, cond, not, vec_items, sym, refl, ap, ◌∙◌, arith}
+use Rattle.std.proofs.Common.{vec_items, sym, ap, ◌∙◌, arith}
 use Rattle.std.proofs.lemmas.Bool.{cond-false}
 use Rattle.shelf.specs.declared.answer.Answer.TheVariants.{Missed}
 use Rattle.block_rules.specs.declared.parts.LinkState.{LinkState}
@@ -15,11 +15,10 @@ index_mut-requires g c =
 
 pub invariant_of-self : goal.invariant_of-self
 invariant_of-self g c =
-    let v = c.args.self.now in (
-      allowed_then _ _ (missed_is v.plan v.row.blocks.now (vec_items v.current) (vec_items v.links) (vec_items v.seats) v.sound c.args.party c.requires.there c.index_mut.result.now c.miss.new.self c.index_mut.ensures.value
-          c.args.at c.args.block c.requires.job c.miss.ensures (sym c.if-not-is_live.ensures)) (turn_sound v.plan v.row.blocks.now (vec_items v.current) (vec_items v.links) (vec_items v.seats) v.sound c.args.party c.requires.there (Putting c.args.at c.args.block) c.requires.job),
-      tt,
-    )
+    let v = c.args.self.now in record {
+      sound = allowed_then _ _ (missed_is v.plan v.row.blocks.now (vec_items v.current) (vec_items v.links) (vec_items v.seats) v.sound c.args.party c.requires.there c.index_mut.result.now c.miss.new.self c.index_mut.ensures.value
+          c.args.at c.args.block c.requires.job c.miss.ensures (sym c.if-not-is_live.ensures)) (turn_sound v.plan v.row.blocks.now (vec_items v.current) (vec_items v.links) (vec_items v.seats) v.sound c.args.party c.requires.there (Putting c.args.at c.args.block) c.requires.job);
+    }
 
 pub returns-then-not-is_live : goal.returns-then-not-is_live
 returns-then-not-is_live g c =
@@ -43,12 +42,11 @@ index_mut-requires-3 g c =
 
 pub invariant_of-self-2 : goal.invariant_of-self-2
 invariant_of-self-2 g c =
-    let v = c.args.self.now in (
-      allowed_then _ _ (stored_is v.plan v.row.blocks.now (vec_items v.current) (vec_items v.links) (vec_items v.seats) v.sound c.args.party c.requires.there c.index_mut-3.result.now c.retire.new.self c.index_mut-3.ensures.value
+    let v = c.args.self.now in record {
+      sound = allowed_then _ _ (stored_is v.plan v.row.blocks.now (vec_items v.current) (vec_items v.links) (vec_items v.seats) v.sound c.args.party c.requires.there c.index_mut-3.result.now c.retire.new.self c.index_mut-3.ensures.value
           c.args.at c.args.block c.requires.job c.channel_of.result c.link-link.result.seen (c.channel_of.ensures ∙ ap (λ (l : LinkState). channel_held l.hold) c.link-link.ensures)
-          (ap (λ (l : LinkState). l.seen) c.link-link.ensures) c.retire.ensures.party (sym c.if-not-is_live.ensures)) (turn_sound v.plan v.row.blocks.now (vec_items v.current) (vec_items v.links) (vec_items v.seats) v.sound c.args.party c.requires.there (Putting c.args.at c.args.block) c.requires.job),
-      tt,
-    )
+          (ap (λ (l : LinkState). l.seen) c.link-link.ensures) c.retire.ensures.party (sym c.if-not-is_live.ensures)) (turn_sound v.plan v.row.blocks.now (vec_items v.current) (vec_items v.links) (vec_items v.seats) v.sound c.args.party c.requires.there (Putting c.args.at c.args.block) c.requires.job);
+    }
 
 pub returns : goal.returns
 returns g c =

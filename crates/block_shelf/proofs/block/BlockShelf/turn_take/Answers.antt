@@ -1,4 +1,4 @@
-use Rattle.std.proofs.Common.{◌≡◌, vec_items, sym, refl, ap, ◌∙◌}
+use Rattle.std.proofs.Common.{vec_items, ap, ◌∙◌}
 use Rattle.block_rules.specs.declared.parts.LinkState.{LinkState}
 use Rattle.block_rules.specs.declared.parts.Access.{Access}
 use Rattle.block_rules.specs.declared.parts.Access.TheVariants.{ReadCurrent, SetGuard, ReadBlock}
@@ -27,7 +27,7 @@ set_link-requires-in-SetGuard g c =
       there = c.requires.there;
       within = take_link v.plan v.row.blocks.now (vec_items v.current) (vec_items v.links) (vec_items v.seats) v.sound c.args.party c.requires.there c.args.at c.args.channel SetGuard job;
       allowed = guarded_sound v.plan v.row.blocks.now (vec_items v.current) (vec_items v.links) (vec_items v.seats) v.sound c.args.party c.requires.there c.args.at c.args.channel job c.guarding-link.result
-          (c.guarding-link.ensures ∙ ap guarding c.link_in-SetGuard.ensures);
+          (c.guarding-link.ensures ∙ ap guarding c.link-in-SetGuard.ensures);
     }
 
 pub set_job-requires : goal.set_job-requires

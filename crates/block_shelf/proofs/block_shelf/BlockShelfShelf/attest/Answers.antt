@@ -1,4 +1,4 @@
-use Rattle.std.proofs.Common.{◌≡◌, sym, refl, ap, ◌∙◌}
+use Rattle.std.proofs.Common.{refl}
 use Rattle.block_rules.proofs.Unique.{sound_out}
 use Rattle.block_shelf.specs.States.{block_state}
 use Rattle.block_shelf.proofs.block_shelf.BlockShelfShelf.attest.Goals as goal

@@ -1,4 +1,4 @@
-use Rattle.std.proofs.Common.{◌≡◌, [], vec_items, sym, refl, ap, ◌∙◌, arith}
+use Rattle.std.proofs.Common.{[], vec_items, ap, ◌∙◌, arith}
 use Rattle.block_rules.specs.Blocks.{emptied}
 use Rattle.block_shelf.proofs.Fit.{link_there}
 use Rattle.std.proofs.lemmas.Result.{err_from_is_err_and}

@@ -1,4 +1,4 @@
-use Rattle.std.proofs.Common.{◌≡◌, List, get_or, vec_items, sym, refl, ap, ◌∙◌}
+use Rattle.std.proofs.Common.{get_or, vec_items, ap, ◌∙◌}
 use Rattle.block_rules.specs.declared.parts.LinkState.{LinkState}
 use Rattle.block_shelf.proofs.Starts.{look_is}
 use Rattle.block_shelf.proofs.block_shelf.BlockShelfShelf.look.Goals as goal

@@ -1,4 +1,4 @@
-use Rattle.std.proofs.Common.{◌≡◌, vec_items, sym, refl, ap, ◌∙◌, arith}
+use Rattle.std.proofs.Common.{vec_items}
 use Rattle.std.proofs.lemmas.Result.{err_from_is_err_and}
 use Rattle.block_shelf.proofs.Starts.{held_there, check_sound, check_granted, checks_then, check_refused, check_stays}
 use Rattle.block_shelf.proofs.block_shelf.BlockShelfShelf.start_check.Goals as goal

@@ -1,4 +1,4 @@
-use Rattle.std.proofs.Common.{◌≡◌, vec_items, sym, refl, ap, ◌∙◌, arith}
+use Rattle.std.proofs.Common.{vec_items}
 use Rattle.std.proofs.lemmas.Result.{err_from_is_err_and}
 use Rattle.block_shelf.proofs.Starts.{held_there, put_sound, put_granted, puts_then, put_refused, put_stays}
 use Rattle.block_shelf.proofs.block_shelf.BlockShelfShelf.start_put.Goals as goal

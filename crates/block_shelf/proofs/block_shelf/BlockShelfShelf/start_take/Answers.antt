@@ -1,4 +1,4 @@
-use Rattle.std.proofs.Common.{◌≡◌, [], vec_items, sym, refl, ap, ◌∙◌, arith}
+use Rattle.std.proofs.Common.{[], vec_items, ap, ◌∙◌}
 use Rattle.std.proofs.lemmas.Result.{err_from_is_err_and}
 use Rattle.block_rules.specs.Blocks.{emptied}
 use Rattle.block_shelf.proofs.Starts.{there, within, take_sound, take_granted, took, take_refused, take_stays}

@@ -1,4 +1,4 @@
-use Rattle.std.proofs.Common.{◌≡◌, sym, refl, ap, ◌∙◌}
+use Rattle.std.proofs.Common.{refl}
 use Rattle.block_rules.specs.declared.parts.Job.TheVariants.{Taking, Putting, Scanning, Checking}
 use Rattle.block_shelf.specs.States.{block_state}
 use Rattle.block_shelf.proofs.Starts.{idle_refused, idle_stays, turn_answered, turn_done}
