@@ -11,7 +11,7 @@ use Rattle.history.specs.Board.{updated, Order, amendment, picture, listed, Entr
 use Rattle.shelf.specs.Meaning.{Link, holds, Operation}
 use Rattle.history.proofs.Shelf.{Said, live, Job, rests, forced}
 use Rattle.shelf.specs.Calls.{reading_on}
-use Rattle.history.proofs.Hub.{Stage, taking, putting, checking, Task, free, doing, Event, ordered, run, looks, Next, next_take, next_put, next_check, stored_done, missed_again, live_next, live_done, broken_again}
+use Rattle.history.proofs.Hub.{Stage, taking, putting, checking, Task, free, doing, Event, ordered, looks, Next, next_take, next_put, next_check, stored_done, missed_again, live_next, live_done, broken_again}
 use Rattle.history.proofs.Basics.{never, updated_same, updated_other, at_party, mem_last, plays_snoc, rem, mem_of_rem, plays_rem}
 use Rattle.history.proofs.Kept.{Filled, Standing, Party, State, Lined, Runs}
 use Rattle.history.proofs.Starting.{party_of_lem}

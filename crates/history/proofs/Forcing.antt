@@ -4,7 +4,7 @@ use mathlib.Core.List.{List, [], ◌∷◌, ◌++◌}
 use mathlib.Core.Bool.{Bool, true, false, cond}
 use mathlib.Core.Logic.{inl, inr}
 use mathlib.Core.Option.{Option}
-use Prim.Native.Nat.{ℕ, ◌+◌, ◌<◌}
+use Prim.Native.Nat.{ℕ, ◌<◌}
 use native.Mathlib.Omega.{arith}
 use native.Mathlib.Decide.{ℕ_discrete}
 use lib.Dec.{eqb}
@@ -13,7 +13,7 @@ use borrow.Author.Tests.{eq-eqb, ne_eqb}
 use Rattle.history.specs.Board.{updated, Order, amendment, picture, listed, Entry}
 use Rattle.shelf.specs.Meaning.{Link, vacant, holds, Operation, take, put, check, break_on}
 use Rattle.history.proofs.Shelf.{Said, taken, stored, missed, live, broken, awaits, forced, Shelf, set_link, Forces, force_take, force_put, force_miss, force_live, force_broken}
-use Rattle.history.proofs.Hub.{Stage, taking, putting, checking, Task, doing, Event, run}
+use Rattle.history.proofs.Hub.{Stage, taking, putting, checking, Task, doing, Event}
 use Rattle.history.proofs.Basics.{never, updated_same, updated_other, at_party, mem_last, plays_snoc}
 use Rattle.history.proofs.Kept.{Standing, Party, State, Lined, Runs, party_break}
 use Rattle.history.proofs.Starting.{party_of_lem, set_true, filled_updated, filled_more}
