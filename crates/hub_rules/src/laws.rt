@@ -9,7 +9,7 @@ use shelf::shelf::Shelf;
 /// answer; one that ended before another was ordered stands before it; and at the end the board holds what the shelf's
 /// channels hold.
 pub fn operations_have_an_order<S: Shelf>(shelf: &S)
-    ensures { OperationsOrdered Item-as-Reading.kind rules }
+    ensures { OperationsOrdered S.Item.Reading.kind S.rules }
 {
     shelf.attest();
 }
@@ -17,10 +17,10 @@ pub fn operations_have_an_order<S: Shelf>(shelf: &S)
 /// Of any 1 + 16 × N × (w + 1) successive turns of busy parties, w being the patience, one ends an operation or brings
 /// an amendment into force. Other calls may lie between these turns.
 pub fn turns_get_on<S: Shelf>(_shelf: &S)
-    ensures { TurnsGetOn Item-as-Reading.kind rules }
+    ensures { TurnsGetOn S.Item.Reading.kind S.rules }
 {}
 
 /// What a party holds reads the same until its next accepted order or its release.
 pub fn holdings_stay<S: Shelf>(_shelf: &S)
-    ensures { HoldingsStay Item-as-Reading.kind rules }
+    ensures { HoldingsStay S.Item.Reading.kind S.rules }
 {}
