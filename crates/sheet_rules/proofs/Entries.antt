@@ -1,13 +1,13 @@
 -- An entry that is read is the entry that is packed there.
-use Rattle.std.proofs.Common.{◌≡◌, ℕ, zero, suc, ◌+◌, ◌^◌, ◌<◌, ◌≤◌, Bool, true, false, List, [], ◌∷◌, ◌++◌, length, drop, Some, None, Option, sym, refl, ap, ◌∙◌, subst, arith}
+use Rattle.std.proofs.Common.{◌≡◌, ℕ, zero, suc, ◌^◌, ◌<◌, ◌≤◌, List, [], ◌∷◌, ◌++◌, length, drop, Some, None, Option, sym, refl, ap, ◌∙◌, subst, arith}
 use Rattle.std.specs.List.{AllByRecursion as All}
 use Rattle.std.proofs.lemmas.List.{append_assoc, append-nil}
 use Rattle.sheet_rules.specs.Bits.{packed}
 use Rattle.sheet_rules.specs.Contents.{Entry, amendment, picture, turn, release, look}
-use Rattle.sheet_rules.specs.Formats.{mapped, channels_format, picture_format, body_format, entry_format}
-use Rattle.sheet_rules.specs.Sheets.{Field, field_of, packed_all, channel_fields, entry_fields, EntryFits, end_code}
+use Rattle.sheet_rules.specs.Formats.{mapped, channels_format, body_format, entry_format}
+use Rattle.sheet_rules.specs.Sheets.{Field, packed_all, channel_fields, entry_fields, EntryFits, end_code}
 use Rattle.sheet_rules.proofs.Reading.{Got, mapped_got, got_mapped}
-use Rattle.sheet_rules.proofs.Headers.{within, not_outside, before, after}
+use Rattle.sheet_rules.proofs.Headers.{within, before, after}
 
 -- some bits begin with an entry that fits, or with the end code
 abbrev pub Entered : List ℕ → Option Entry → List ℕ → Type 0
