@@ -1,7 +1,7 @@
 -- Reading entry after entry: what was read so far, and how it ends.
 use Rattle.std.proofs.Common.{◌≡◌, ℕ, ◌+◌, ◌*◌, ◌<◌, ◌≤◌, Bool, true, false, cond, List, [], ◌∷◌, ◌++◌, length, Some, None, Option, sym, refl, ap, ◌∙◌, subst, arith}
 use Rattle.std.specs.Int.Digits.{AllBelowBase}
-use Rattle.std.specs.List.{AllByRecursion as All}
+use Rattle.std.specs.List.{AllByRecursion}
 use Rattle.std.proofs.lemmas.List.{append_assoc, length-append, flat_map_more}
 use Rattle.std.proofs.ByRecursion.{All-push}
 use Rattle.std.proofs.lemmas.Bool.{both_ways}
@@ -17,7 +17,7 @@ use Rattle.sheet_rules.proofs.Packing.{length_packed}
 
 -- entries lead from some bits at a place to the bits left at another
 pub record Leads (bits : List ℕ) (k : ℕ) (es : List Entry) (rest : List ℕ) (k' : ℕ) : Type 0 where
-  pub fit : All EntryFits es
+  pub fit : AllByRecursion EntryFits es
   pub packs : bits ≡ packed_entries es ++ rest
   pub place : k' ≡ k + length (packed_entries es)
 
