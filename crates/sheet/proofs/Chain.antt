@@ -1,5 +1,5 @@
 -- Reading a format field by field, each by a call that reads one field alone.
-use Rattle.std.proofs.Common.{◌≡◌, ℕ, ◌+◌, Bool, true, false, cond, List, drop, Some, None, Option, sym, refl, ap, ◌∙◌, arith}
+use Rattle.std.proofs.Common.{◌≡◌, ℕ, ◌+◌, Bool, true, false, cond, List, drop, Some, None, Option, ap, ◌∙◌, arith}
 use Rattle.sheet_rules.specs.Bits.{field_in}
 use Rattle.sheet_rules.specs.Contents.{Fault, fault_at}
 use Rattle.sheet_rules.specs.Formats.{Format, gives, field, Read, got, fails, field_or, read_as}

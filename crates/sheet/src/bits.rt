@@ -17,7 +17,9 @@ fn bit(bytes: &[u8], k: usize) -> u64
 
 // The number in the field of a width that begins at a bit.
 fn field(bytes: &[u8], from: usize, width: usize) -> u64
-    requires { (from + width ≤ 8 * length bytes.now) × ((width ≤ 64) × (length bytes.now ≤ 65536)) }
+    requires within { from + width ≤ 8 * length bytes.now }
+    requires narrow { width ≤ 64 }
+    requires short { length bytes.now ≤ 65536 }
     ensures is { result ≡ number_from_digits 2 (take width (drop from (bits_of bytes.now))) }
     ensures small { result < 2 ^ width }
 {

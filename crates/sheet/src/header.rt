@@ -54,7 +54,8 @@ fn read_shelf(bits: &mut BitReader) -> Result<ShelfType, Fault>
 
 // N, K or C: from 1 to `most`, or the plan's refusal.
 fn read_size(bits: &mut BitReader, width: usize, most: u64, refusal: Refusal) -> Result<u8, Fault>
-    requires { (width ≤ 64) × (most < 256) }
+    requires narrow { width ≤ 64 }
+    requires byte { most < 256 }
     ensures { read_told (λ v. v) result (left bits.new) bits.new.at ≡ read_as (one width (outside 1 most) (refusal_number refusal)) (left bits.old) bits.old.at }
 {
     let place = bits.place();

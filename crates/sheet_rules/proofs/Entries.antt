@@ -1,13 +1,13 @@
 -- An entry that is read is the entry that is packed there.
-use Rattle.std.proofs.Common.{◌≡◌, ℕ, zero, suc, ◌+◌, ◌^◌, ◌<◌, ◌≤◌, Bool, true, false, List, [], ◌∷◌, ◌++◌, length, drop, Some, None, Option, sym, refl, ap, ◌∙◌, subst, arith}
-use Rattle.std.specs.List.{AllByRecursion as All}
+use Rattle.std.proofs.Common.{◌≡◌, ℕ, zero, suc, ◌^◌, ◌<◌, ◌≤◌, List, [], ◌∷◌, ◌++◌, length, drop, Some, None, Option, sym, refl, ap, ◌∙◌, subst, arith}
+use Rattle.std.specs.List.{AllByRecursion}
 use Rattle.std.proofs.lemmas.List.{append_assoc, append-nil}
 use Rattle.sheet_rules.specs.Bits.{packed}
 use Rattle.sheet_rules.specs.Contents.{Entry, amendment, picture, turn, release, look}
-use Rattle.sheet_rules.specs.Formats.{mapped, channels_format, picture_format, body_format, entry_format}
-use Rattle.sheet_rules.specs.Sheets.{Field, field_of, packed_all, channel_fields, entry_fields, EntryFits, end_code}
+use Rattle.sheet_rules.specs.Formats.{mapped, channels_format, body_format, entry_format}
+use Rattle.sheet_rules.specs.Sheets.{Field, packed_all, channel_fields, entry_fields, EntryFits, end_code}
 use Rattle.sheet_rules.proofs.Reading.{Got, mapped_got, got_mapped}
-use Rattle.sheet_rules.proofs.Headers.{within, not_outside, before, after}
+use Rattle.sheet_rules.proofs.Headers.{within, before, after}
 
 -- some bits begin with an entry that fits, or with the end code
 abbrev pub Entered : List ℕ → Option Entry → List ℕ → Type 0
@@ -19,7 +19,7 @@ pub record Listed (bits : List ℕ) (n : ℕ) (cs ds rest : List ℕ) : Type 0 w
   pub more : List ℕ
   pub all : ds ≡ cs ++ more
   pub count : length more ≡ n
-  pub fit : All (λ c. c < 2 ^ 7) more
+  pub fit : AllByRecursion (λ c. c < 2 ^ 7) more
   pub packs : bits ≡ packed_all (channel_fields more) ++ rest
 
 got_channels : (n : ℕ) (cs bits ds rest : List ℕ) → Got (channels_format n cs) bits ds rest → Listed bits n cs ds rest
@@ -34,7 +34,7 @@ got_channels (suc n) cs bits ds rest t =
       packs = before 7 t.0 (channel_fields r.more) bits t.3 rest t.4 r.packs;
     }
 
-channels_got : (more cs rest : List ℕ) → All (λ c. c < 2 ^ 7) more
+channels_got : (more cs rest : List ℕ) → AllByRecursion (λ c. c < 2 ^ 7) more
     → Got (channels_format (length more) cs) (packed_all (channel_fields more) ++ rest) (cs ++ more) rest
 channels_got [] cs rest u = (sym (append-nil cs), refl)
 channels_got (c ∷ more) cs rest u = (

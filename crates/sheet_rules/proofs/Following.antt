@@ -1,14 +1,13 @@
 -- Reading entry after entry: what was read so far, and how it ends.
 use Rattle.std.proofs.Common.{◌≡◌, ℕ, ◌+◌, ◌*◌, ◌<◌, ◌≤◌, Bool, true, false, cond, List, [], ◌∷◌, ◌++◌, length, Some, None, Option, sym, refl, ap, ◌∙◌, subst, arith}
 use Rattle.std.specs.Int.Digits.{AllBelowBase}
-use Rattle.std.specs.List.{AllByRecursion as All}
-use Rattle.std.proofs.lemmas.List.{append_assoc, append-nil, length-append, flat_map_more}
+use Rattle.std.specs.List.{AllByRecursion}
+use Rattle.std.proofs.lemmas.List.{append_assoc, length-append, flat_map_more}
 use Rattle.std.proofs.ByRecursion.{All-push}
 use Rattle.std.proofs.lemmas.Bool.{both_ways}
-use Rattle.sheet_rules.specs.Bits.{packed}
-use Rattle.sheet_rules.specs.Contents.{Header, Entry, Fault, fault_at, Contents, nothing_but, read_to}
-use Rattle.sheet_rules.specs.Formats.{Read, got, fails, read_as, header_format, entry_format, only_fill, Fails}
-use Rattle.sheet_rules.specs.Sheets.{packed_all, header_fields, entry_fields, EntryFits, packed_entries, end_code, Filled, most_bits, Ends, entry_fails, runs_on, ends, Says, header_fails, goes_on}
+use Rattle.sheet_rules.specs.Contents.{Header, Entry, Fault, fault_at, nothing_but, read_to}
+use Rattle.sheet_rules.specs.Formats.{got, fails, read_as, header_format, entry_format, only_fill, Fails}
+use Rattle.sheet_rules.specs.Sheets.{packed_all, header_fields, entry_fields, EntryFits, packed_entries, end_code, most_bits, Ends, entry_fails, runs_on, ends, Says, header_fails, goes_on}
 use Rattle.sheet_rules.proofs.Reading.{read_got, read_place, read_under, read_fails}
 use Rattle.sheet_rules.proofs.Headers.{got_header}
 use Rattle.sheet_rules.proofs.Entries.{Entered, got_entry}
@@ -18,7 +17,7 @@ use Rattle.sheet_rules.proofs.Packing.{length_packed}
 
 -- entries lead from some bits at a place to the bits left at another
 pub record Leads (bits : List ℕ) (k : ℕ) (es : List Entry) (rest : List ℕ) (k' : ℕ) : Type 0 where
-  pub fit : All EntryFits es
+  pub fit : AllByRecursion EntryFits es
   pub packs : bits ≡ packed_entries es ++ rest
   pub place : k' ≡ k + length (packed_entries es)
 

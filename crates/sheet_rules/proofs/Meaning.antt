@@ -1,18 +1,18 @@
 -- Bits say one thing at most: what they say is what reading from the front gives.
-use Rattle.std.proofs.Common.{◌≡◌, ℕ, zero, suc, ◌+◌, ◌-◌, ◌*◌, ◌^◌, ◌<◌, ◌≤◌, Bool, true, false, cond, ltb, ◌⊎◌, List, [], ◌∷◌, ◌++◌, length, drop, Some, None, Option, sym, refl, ap, ◌∙◌, subst, inl, inr, ⊎_elim, arith}
+use Rattle.std.proofs.Common.{◌≡◌, ℕ, zero, suc, ◌+◌, ◌-◌, ◌*◌, ◌<◌, ◌≤◌, Bool, true, false, cond, ltb, List, [], ◌∷◌, ◌++◌, length, drop, Some, None, Option, sym, refl, ap, ◌∙◌, subst, arith}
 use Rattle.std.specs.Int.Digits.{AllBelowBase}
-use Rattle.std.specs.List.{flat_map, AllByRecursion as All}
+use Rattle.std.specs.List.{AllByRecursion}
 use Rattle.std.proofs.lemmas.List.{append_assoc, append-nil, length-append, drop_at}
 use Rattle.std.proofs.ByRecursion.{All-drop}
-use Rattle.std.proofs.lemmas.Bool.{cond-true, cond-false, lt-ltb, le-ltb, cases_Bool}
+use Rattle.std.proofs.lemmas.Bool.{cond-true, cond-false, lt-ltb, le-ltb}
 use Rattle.sheet_rules.specs.Bits.{packed}
 use Rattle.sheet_rules.specs.Contents.{Header, Entry, amendment, picture, turn, release, look, Fault, fault_at, Contents, nothing_but, read_to}
 use Rattle.sheet_rules.specs.Formats.{Read, got, fails, read_as, header_format, entry_format, only_fill}
 use Rattle.sheet_rules.specs.Sheets.{Field, field_of, packed_all, header_fields, entry_fields, HeaderFits, EntryFits, packed_entries, end_code, Filled, most_bits, IsSheet, Ends, entry_fails, runs_on, ends, Says, too_long, header_fails, goes_on, ReadRight, OneMeaning}
 use Rattle.sheet_rules.proofs.Packing.{length_packed}
 use Rattle.sheet_rules.proofs.Reading.{fails_read, got_read}
-use Rattle.sheet_rules.proofs.Headers.{Headed, header_got}
-use Rattle.sheet_rules.proofs.Entries.{Entered, entry_got}
+use Rattle.sheet_rules.proofs.Headers.{header_got}
+use Rattle.sheet_rules.proofs.Entries.{entry_got}
 use Rattle.sheet_rules.proofs.Fill.{filled_is, is_filled}
 
 -- entries and the fault that ends them
@@ -41,7 +41,7 @@ contents_in bits = cond (ltb most_bits (length bits)) (nothing_but (fault_at 24 
 abbrev prepend : List Entry → Tail → Tail
 prepend es t = record { entries = es ++ t.entries; fault = t.fault }
 
-walk : (es : List Entry) (rest : List ℕ) (k n m : ℕ) → All EntryFits es → m ≡ length es + n
+walk : (es : List Entry) (rest : List ℕ) (k n m : ℕ) → AllByRecursion EntryFits es → m ≡ length es + n
     → tail_from m (packed_entries es ++ rest) k ≡ prepend es (tail_from n rest (k + length (packed_entries es)))
 walk [] rest k n m u e =
     let same : m ≡ n = omega arith in
@@ -80,7 +80,7 @@ few (e ∷ es) = omega (arith, length-append (packed_all (entry_fields e)) (pack
 abbrev with_tail : Header → List Entry → Tail → Contents
 with_tail h es t = read_to h (es ++ t.entries) t.fault
 
-module _ (bits : List ℕ) (h : Header) (es : List Entry) (s : length bits ≤ most_bits) (f : HeaderFits h) (u : All EntryFits es) where
+module _ (bits : List ℕ) (h : Header) (es : List Entry) (s : length bits ≤ most_bits) (f : HeaderFits h) (u : AllByRecursion EntryFits es) where
   abbrev behind : ℕ
   behind = length (packed_all (header_fields h)) + length (packed_entries es)
 

@@ -1,5 +1,5 @@
 -- Bits and fields. A bit is 0 or 1; a field is a number in a given width, most significant bit first.
-use Rattle.std.specs.Prelude.{ℕ, zero, suc, ◌/◌, ◌%◌, ◌<◌, cond, List, [], ◌∷◌, ◌++◌, length, take, Some, None, Option, nat_le}
+use Rattle.std.specs.Prelude.{ℕ, zero, suc, ◌/◌, ◌%◌, cond, List, [], ◌∷◌, ◌++◌, length, take, Some, None, Option, nat_le}
 use Rattle.std.specs.Int.Digits.{number_from_digits}
 
 -- a number packed into a width

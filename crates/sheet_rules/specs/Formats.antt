@@ -1,6 +1,6 @@
 -- The format of a run sheet, field by field, and how fields are read: in the order written, until one fails.
 use Rattle.std.specs.Prelude.{◌≡◌, ℕ, zero, suc, ◌+◌, ◌^◌, ◌<◌, Bool, true, false, cond, not, ◌&&◌, List, [], ◌∷◌, ◌++◌, length, drop, Some, None, Option, ◌==◌, nat_le, nat_lt}
-use Rattle.std.specs.Int.Digits.{number_from_digits as number}
+use Rattle.std.specs.Int.Digits.{number_from_digits}
 use Rattle.sheet_rules.specs.Bits.{packed, field_in}
 use Rattle.sheet_rules.specs.Contents.{Header, Entry, amendment, picture, turn, release, look, Fault, fault_at}
 
@@ -87,7 +87,7 @@ read_as (field w wrong n f) bits k =
 
 -- after the end code: fewer than eight bits, all zero
 abbrev pub only_fill : List ℕ → Bool
-only_fill bits = nat_lt (length bits) 8 && number 2 bits == 0
+only_fill bits = nat_lt (length bits) 8 && number_from_digits 2 bits == 0
 
 -- the first field that fails: cut short, or with a wrong value, or a later one
 pub data Fails {A : Type 0} : Format A → List ℕ → ℕ → Fault → Type 0 where

@@ -1,7 +1,7 @@
 -- The law of sheets: which bits pack which contents, and what any bits say.
 use Rattle.std.specs.Prelude.{◌≡◌, ℕ, ◌+◌, ◌*◌, ◌^◌, ◌<◌, ◌≤◌, List, [], ◌∷◌, ◌++◌, length, replicate, Some, None, Option}
 use Rattle.std.specs.Int.Digits.{AllBelowBase}
-use Rattle.std.specs.List.{flat_map, AllByRecursion as All}
+use Rattle.std.specs.List.{flat_map, AllByRecursion}
 use Rattle.sheet_rules.specs.Bits.{packed}
 use Rattle.sheet_rules.specs.Contents.{Header, Entry, amendment, picture, turn, release, look, Fault, fault_at, Contents, nothing_but, read_to}
 use Rattle.sheet_rules.specs.Formats.{Fails, header_format, entry_format}
@@ -48,7 +48,7 @@ pub record HeaderFits (h : Header) : Type 0 where
 -- an entry whose fields fit their widths
 abbrev pub EntryFits : Entry → Type 0
 EntryFits (amendment p c w) = (p < 2 ^ 5) × (c < 2 ^ 7) × (w < 2 ^ 64)
-EntryFits (picture p cs) = (p < 2 ^ 5) × (length cs < 2 ^ 3) × All (λ c. c < 2 ^ 7) cs
+EntryFits (picture p cs) = (p < 2 ^ 5) × (length cs < 2 ^ 3) × AllByRecursion (λ c. c < 2 ^ 7) cs
 EntryFits (turn p) = p < 2 ^ 5
 EntryFits (release p) = p < 2 ^ 5
 EntryFits (look p i) = (p < 2 ^ 5) × (i < 2 ^ 3)
@@ -72,7 +72,7 @@ most_bits = 8 * 65536
 pub record IsSheet (bits : List ℕ) (h : Header) (es : List Entry) : Type 0 where
   pub short : length bits ≤ most_bits
   pub header : HeaderFits h
-  pub entries : All EntryFits es
+  pub entries : AllByRecursion EntryFits es
   pub fill : List ℕ
   pub filled : Filled fill
   pub packs : bits ≡ packed_all (header_fields h) ++ (packed_entries es ++ (end_code ++ fill))
@@ -80,11 +80,11 @@ pub record IsSheet (bits : List ℕ) (h : Header) (es : List Entry) : Type 0 whe
 -- what the bits behind a header say, from a place on: entries, and then a field that fails, or the end code
 -- with more than fill behind it, or the end
 pub data Ends (bits : List ℕ) (k : ℕ) : List Entry → Option Fault → Type 0 where
-  entry_fails : (es : List Entry) (rest : List ℕ) (f : Fault) → All EntryFits es → bits ≡ packed_entries es ++ rest
+  entry_fails : (es : List Entry) (rest : List ℕ) (f : Fault) → AllByRecursion EntryFits es → bits ≡ packed_entries es ++ rest
       → Fails entry_format rest (k + length (packed_entries es)) f → Ends bits k es (Some f)
-  runs_on : (es : List Entry) (rest : List ℕ) → All EntryFits es → bits ≡ packed_entries es ++ (end_code ++ rest)
+  runs_on : (es : List Entry) (rest : List ℕ) → AllByRecursion EntryFits es → bits ≡ packed_entries es ++ (end_code ++ rest)
       → (Filled rest → ⊥) → Ends bits k es (Some (fault_at 23 (k + length (packed_entries es) + 3)))
-  ends : (es : List Entry) (rest : List ℕ) → All EntryFits es → bits ≡ packed_entries es ++ (end_code ++ rest)
+  ends : (es : List Entry) (rest : List ℕ) → AllByRecursion EntryFits es → bits ≡ packed_entries es ++ (end_code ++ rest)
       → Filled rest → Ends bits k es None
 
 -- what bits say: too much, or a fault in the header, or a header and what stands behind it

@@ -446,13 +446,10 @@ mod tests {
                 assert_eq!(rt; fault.refusal.number(), case.number);
                 assert_eq!(rt; fault.place, case.place);
                 assert_eq!(rt; fault.layer, case.layer);
-                Ok(())
             }
-            None => {
-                assert_eq!(rt; 0, case.number);
-                Ok(())
-            },
+            None => assert_eq!(rt; 0, case.number),
         }
+        Ok(())
     }
 
     #[test]

@@ -1,4 +1,4 @@
-use Rattle.std.proofs.Common.{◌≡◌, ℕ, ◌+◌, ◌-◌, [], take, sym, refl, ap, ◌∙◌, arith, length-set}
+use Rattle.std.proofs.Common.{◌≡◌, ℕ, ◌-◌, [], take, sym, refl, ap, ◌∙◌, arith, length-set}
 use Rattle.sheet_rules.specs.Contents.{Fault, fault_at}
 use Rattle.sheet_rules.specs.Formats.{read_as, channels_format, fails, got}
 use Rattle.sheet.specs.Left.{left}
@@ -19,11 +19,11 @@ loop-i-preserved c =
           ∙ c.loop-i.invariant.1,
     )
 
-pub returns-in-default : goal.returns-in-default
-returns-in-default c =
+pub returns-in_default : goal.returns-in_default
+returns-in_default c =
     ap (λ (f : Fault). fails f) c.at.ensures
-    ∙ (ap (λ (k : ℕ). fails (fault_at 20 k)) (c.place.ensures ∙ c.in-default.ensures.moves.1)
-    ∙ (channel_cut c.args.count c.loop-i.i c.loop-i-test.true (take c.loop-i.i c.loop-i.channels) (left c.loop-i.bits) c.loop-i.bits.at c.in-default.ensures.result
+    ∙ (ap (λ (k : ℕ). fails (fault_at 20 k)) (c.place.ensures ∙ c.in_default.ensures.moves.1)
+    ∙ (channel_cut c.args.count c.loop-i.i c.loop-i-test.true (take c.loop-i.i c.loop-i.channels) (left c.loop-i.bits) c.loop-i.bits.at c.in_default.ensures.result
     ∙ c.loop-i.invariant.1))
 
 pub returns : goal.returns

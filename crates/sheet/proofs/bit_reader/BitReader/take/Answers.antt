@@ -1,4 +1,4 @@
-use Rattle.std.proofs.Common.{◌≡◌, refl, arith}
+use Rattle.std.proofs.Common.{refl, arith}
 use Rattle.sheet.specs.Left.{left}
 use Rattle.sheet.proofs.Fields.{left_missing, left_found, left_more}
 use Rattle.sheet.proofs.bit_reader.BitReader.take.Goals as goal
