@@ -1,6 +1,6 @@
 -- What calls write: nothing but blocks that were ready, so no block that a link holds and none beyond the need.
 use Rattle.std.proofs.Common.{◌≡◌, ℕ, ◌<◌, ◌≤◌, List, [], ◌∷◌, get_or, sym, refl, ap, ◌∙◌, subst, ⊎_elim, arith}
-use Rattle.std.specs.List.{AllByRecursion as All}
+use Rattle.std.specs.List.{AllByRecursion}
 use Rattle.std.proofs.lemmas.List.{get_or-set_other, get_or_past}
 use Rattle.std.proofs.lemmas.Bool.{cases_lt, ltb-true}
 use Rattle.plan.specs.Plans.{width, need}
@@ -31,7 +31,7 @@ module _ {R : Type 0} (d : R) (s : State R) (ok : Sound s) where
   put_writes p j r in_p [] e = nothing refl
   put_writes p j r in_p (h ∷ rest) e = ready_block h r in_p (omega (arith, ap (times h) e, times_cons h h rest, same_self h)) refl
 
-  accepted_writes : (k : Call R) → All Passed (tests_of s.plan (means d s) k) → Writes s (caller_of k) (state_after (block_shelf_rules d) s k).row
+  accepted_writes : (k : Call R) → AllByRecursion Passed (tests_of s.plan (means d s) k) → Writes s (caller_of k) (state_after (block_shelf_rules d) s k).row
   accepted_writes (Take p i c) t = nothing refl
   accepted_writes (Put p i r) t = put_writes p (flat s.plan p i) r (ltb-true p s.plan.parties t.0) (party s p).ready refl
   accepted_writes (Check p i) t = nothing refl

@@ -1,6 +1,6 @@
 -- The calls that start an operation, drop a link or look at one: what their tests tell, and the state then.
 use Rattle.std.proofs.Common.{◌≡◌, ℕ, ◌<◌, false, ◌≢◌, List, [], ◌∷◌, ◌++◌, map, get_or, set, Err, Result, sym, refl, ap, ◌∙◌, subst}
-use Rattle.std.specs.List.{AllByRecursion as All}
+use Rattle.std.specs.List.{AllByRecursion}
 use Rattle.std.proofs.lemmas.Bool.{lt-ltb, true≢false}
 use Rattle.plan.specs.Plans.{width}
 use Rattle.plan.specs.Refusals.{accepted, refused, unless_refused, Test, told, refusal_number}
@@ -58,10 +58,10 @@ module _ {R : Type 0} (d : R) (pl : Plan) (row : List R) (current : List ℕ) (l
 
   -- the state after an accepted take or drop
   module _ (p i j : ℕ) (e : accepted j ≡ unless_refused (known pl m p ∷ free pl m p ∷ has_link pl m i ∷ []) (flat pl p i)) where
-    passed : All Passed (known pl m p ∷ free pl m p ∷ has_link pl m i ∷ [])
+    passed : AllByRecursion Passed (known pl m p ∷ free pl m p ∷ has_link pl m i ∷ [])
     passed = free_passed pl m p i j [] e
 
-    take_passed : (c : ℕ) → c < pl.channels → All Passed (tests_of pl m (Take p i c))
+    take_passed : (c : ℕ) → c < pl.channels → AllByRecursion Passed (tests_of pl m (Take p i c))
     take_passed c in_c = (passed.0, (passed.1.0, (passed.1.1.0, (lt-ltb c pl.channels in_c, tt))))
 
     pub take_granted : (c : ℕ) → c < pl.channels → accepted tt ≡ granted (block_shelf_rules d) s (Take p i c)
@@ -91,7 +91,7 @@ module _ {R : Type 0} (d : R) (pl : Plan) (row : List R) (current : List ℕ) (l
     on : (c : ℕ) × ((link s j).hold ≡ On c)
     on = on_from d s j (link_full pl m p i j e)
 
-    held_passed : All Passed (known pl m p ∷ free pl m p ∷ has_link pl m i ∷ full pl m p i ∷ [])
+    held_passed : AllByRecursion Passed (known pl m p ∷ free pl m p ∷ has_link pl m i ∷ full pl m p i ∷ [])
     held_passed = free_passed pl m p i j (full pl m p i ∷ []) e
 
     flat_is : j ≡ flat pl p i

@@ -2,7 +2,7 @@
 use Rattle.std.proofs.Common.{◌≡◌, ℕ, ◌+◌, ◌^◌, ◌<◌, true, false, cond, not, ltb, List, [], ◌∷◌, map, length, get_or, drop, set, sym, refl, ap, ◌∙◌, subst, arith}
 use Rattle.flag_rules.proofs.AsShelf.{flag_shelf_rules}
 use Rattle.std.proofs.lemmas.List.{get_or-drop}
-use Rattle.std.specs.List.{AllByRecursion as All}
+use Rattle.std.specs.List.{AllByRecursion}
 use Rattle.std.proofs.lemmas.Nat.{mul-le}
 use Rattle.std.proofs.lemmas.Bool.{ltb-true, lt-ltb, cond-true, cond-false}
 use Rattle.plan.specs.Refusals.{Test, accepted, refused, unless_refused}
@@ -43,7 +43,7 @@ module _ {R : Type 0} (d : R) (pl : Plan) (row : List R) (marks : List Mark) (jo
 
   -- what a free link's tests tell
   module _ (p i at : ℕ) (us : List Test) (e : accepted at ≡ unless_refused (known pl (means d now) p ∷ free pl (means d now) p ∷ has_link pl (means d now) i ∷ us) (flat pl p i)) where
-    passed : All Passed (known pl (means d now) p ∷ free pl (means d now) p ∷ has_link pl (means d now) i ∷ us)
+    passed : AllByRecursion Passed (known pl (means d now) p ∷ free pl (means d now) p ∷ has_link pl (means d now) i ∷ us)
     passed = (accepted_passed (known pl (means d now) p ∷ free pl (means d now) p ∷ has_link pl (means d now) i ∷ us) (flat pl p i) at e).0
 
     pub party_in : p < pl.parties

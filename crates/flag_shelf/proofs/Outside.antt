@@ -10,7 +10,7 @@ use Rattle.shelf.specs.Laws.{after_all}
 use Rattle.shelf.proofs.Passing.{Passed, Ways, all_pass, one_refuses, ways}
 use Rattle.shelf.proofs.After.{sound_after}
 use Rattle.shelf.proofs.Did.{same_plan}
-use Rattle.std.specs.List.{AllByRecursion as All}
+use Rattle.std.specs.List.{AllByRecursion}
 use Rattle.std.proofs.lemmas.Bool.{ltb-true}
 use Rattle.flag_rules.specs.declared.parts.Mark.{Mark}
 use Rattle.flag_rules.specs.declared.parts.Mark.TheVariants.{Empty, Live, Broken}
@@ -46,7 +46,7 @@ module _ {R : Type 0} (d : R) where
     turn_stays p h (Putting j r) f = put_stays p r (mark_at s j) (ok.marks_fit j (own_below s.plan p j h f.0))
     turn_stays p h (Checking j) f = record { size = refl; beyond = refl }
 
-    accepted_stays : (k : Call R) → All Passed (tests_of s.plan (means d s) k) → Untouched s (state_after (flag_shelf_rules d) s k)
+    accepted_stays : (k : Call R) → AllByRecursion Passed (tests_of s.plan (means d s) k) → Untouched s (state_after (flag_shelf_rules d) s k)
     accepted_stays (Take p i c) t = record { size = refl; beyond = refl }
     accepted_stays (Put p i r) t = record { size = refl; beyond = refl }
     accepted_stays (Check p i) t = record { size = refl; beyond = refl }

@@ -6,7 +6,7 @@ use Rattle.plan.specs.declared.check.Plan.{Plan}
 use Rattle.plan.specs.Plans.{width}
 use Rattle.shelf.specs.Meaning.{flat, Link, vacant, Activity, idle, Meaning, link_at, activity_of, linking}
 use Rattle.shelf.specs.Rules.{Rules}
-use Rattle.std.specs.List.{AllByRecursion as All}
+use Rattle.std.specs.List.{AllByRecursion}
 use Rattle.shelf.proofs.Passing.{Passed, passes}
 use Rattle.shelf.proofs.After.{own_flat}
 use Rattle.shelf.specs.Calls as C
@@ -45,7 +45,7 @@ module _ {R : Type 0} (kind : KindOf R) (rules : Rules R) (pl : Plan) (w : ℕ) 
       let law = rules.drops t p (flat (rules.plan t) p n) E.sound in_plan (own_flat (rules.plan t) p n in_links) free' in
       let e_m : rules.means (rules.dropped t p (flat (rules.plan t) p n)) ≡ linking (rules.means t) (flat pl p n) vacant = law.1 ∙ ap (λ (x : Plan). linking (rules.means t) (flat x p n) vacant) E.plan in
       let links_are : (rules.means (rules.dropped t p (flat (rules.plan t) p n))).links ≡ set (rules.means t).links (flat pl p n) vacant = ap (λ (x : Meaning R). x.links) e_m in
-      let tests : All Passed (C.tests_of (rules.plan t) (rules.means t) (C.Drop p n)) = (lt-ltb _ _ in_plan, (ap is_idle free', (lt-ltb _ _ in_links, tt))) in
+      let tests : AllByRecursion Passed (C.tests_of (rules.plan t) (rules.means t) (C.Drop p n)) = (lt-ltb _ _ in_plan, (ap is_idle free', (lt-ltb _ _ in_links, tt))) in
       subst (Emptied (suc n)) (sym (ap (C.leaves t) (passes (C.tests_of (rules.plan t) (rules.means t) (C.Drop p n)) (rules.dropped t p (flat (rules.plan t) p n)) tests)))
       (record {
         sound = law.0.sound';

@@ -5,7 +5,7 @@ use Rattle.reading.specs.Kinds.{KindOf}
 use Rattle.plan.specs.declared.check.Plan.{Plan}
 use Rattle.shelf.specs.Meaning.{flat, Link, vacant, holds, Operation, take, put, check, Activity, idle, waits, in_force, Meaning, link_at, activity_of, does, linking}
 use Rattle.shelf.specs.Rules.{Rules, Keeps}
-use Rattle.std.specs.List.{AllByRecursion as All}
+use Rattle.std.specs.List.{AllByRecursion}
 use Rattle.shelf.proofs.Passing.{Passed, passes}
 use Rattle.shelf.proofs.After.{own_flat}
 use Rattle.shelf.specs.Calls as C
@@ -96,7 +96,7 @@ module _ {R : Type 0} (kind : KindOf R) (rules : Rules R) (pl : Plan) (w : ℕ) 
       }
 
       -- what the hub starts, where the shelf accepts it
-      started_is : (k : C.Call R) → All Passed (C.tests_of (rules.plan s) M k) → started kind rules s p k ≡ C.state_after rules s k
+      started_is : (k : C.Call R) → AllByRecursion Passed (C.tests_of (rules.plan s) M k) → started kind rules s p k ≡ C.state_after rules s k
       started_is k t =
           ap (λ (b : Bool). cond b (C.after rules s k) s) idle_true ∙ ap (C.leaves s) (passes (C.tests_of (rules.plan s) M k) (C.state_after rules s k) t)
 
@@ -130,11 +130,11 @@ module _ {R : Type 0} (kind : KindOf R) (rules : Rules R) (pl : Plan) (w : ℕ) 
       fits_at : {X Y : Meaning R} {link' : ℕ → ℕ → Link R} {job' : ℕ → Job R} → X ≡ Y → Fits rules.blank pl Y m.reading link' job' → Fits rules.blank pl X m.reading link' job'
       fits_at {X} {Y} {link'} {job'} e F = subst (λ (x : Meaning R). Fits rules.blank pl x m.reading link' job') (sym e) F
 
-      take_tests : (i c : ℕ) → i < pl.links → c < pl.channels → All Passed (C.tests_of (rules.plan s) M (C.Take p i c))
+      take_tests : (i c : ℕ) → i < pl.links → c < pl.channels → AllByRecursion Passed (C.tests_of (rules.plan s) M (C.Take p i c))
       take_tests i c in_i in_c = (lt-ltb _ _ in_plan, (idle_true, (lt-ltb _ _ (in_links i in_i), (lt-ltb _ _ (in_channels c in_c), tt))))
 
       -- those of a put, a check and a look
-      full_tests : (i : ℕ) → i < pl.links → Ready (m.link p i) → All Passed (C.tests_of (rules.plan s) M (C.Check p i))
+      full_tests : (i : ℕ) → i < pl.links → Ready (m.link p i) → AllByRecursion Passed (C.tests_of (rules.plan s) M (C.Check p i))
       full_tests i in_i rd = (lt-ltb _ _ in_plan, (idle_true, (lt-ltb _ _ (in_links i in_i), (full_true i rd.channel rd.reading rd.is_live in_i rd.is, tt))))
 
       begin_take : (y : Party) (j c : ℕ) → begun kind rules s p y ≡ started kind rules s p (C.Take p j c) → Wants kind.amended (m.link p) (order_of y) (stage_of y) (take j c)

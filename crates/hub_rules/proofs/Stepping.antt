@@ -1,7 +1,7 @@
 -- Every call of the exact hub is a step of the model.
 use Rattle.std.proofs.Common.{◌≡◌, ℕ, zero, suc, ◌+◌, ◌<◌, true, false, not, ◌&&◌, ltb, leb, ◌≢◌, List, [], ◌∷◌, length, get_or, set, sym, refl, ap, ◌∙◌, subst, arith, length-set, get_or-set_other, get_or-set_same}
 use mathlib.Core.Option.{Option, none, some}
-use Rattle.std.specs.List.{AllByRecursion as All}
+use Rattle.std.specs.List.{AllByRecursion}
 use Rattle.std.proofs.lemmas.Bool.{ltb-true, lt-ltb, leb-true, and_parts}
 use Rattle.plan.specs.Refusals.{Outcome, accepted}
 use Rattle.plan.specs.Plans.{InRange}
@@ -107,7 +107,7 @@ module _ {R : Type 0} (kind : KindOf R) (rules : Rules R) (plan : N.Plan) (pl : 
 
     -- ** a turn
 
-    module _ (p : ℕ) (y : Party) (in_p : p < pl.parties) (e_y : party_of kind rules x p ≡ y) (running : Runs y) (t : All Passed (tests_of kind rules x (Turn p))) where
+    module _ (p : ℕ) (y : Party) (in_p : p < pl.parties) (e_y : party_of kind rules x p ≡ y) (running : Runs y) (t : AllByRecursion Passed (tests_of kind rules x (Turn p))) where
       hub_task : h.task p ≡ doing (order_of y) (stage_of y)
       hub_task = mt.tasks p ∙ (ap task_of e_y ∙ running.task)
 
@@ -251,7 +251,7 @@ module _ {R : Type 0} (kind : KindOf R) (rules : Rules R) (plan : N.Plan) (pl : 
         by_answer answers.Broken e_a t = said broken e_a t
 
       -- the shelf accepts the turn
-      shelf_tests : All Passed (C.tests_of (rules.plan s) (rules.means s) (C.Turn p))
+      shelf_tests : AllByRecursion Passed (C.tests_of (rules.plan s) (rules.means s) (C.Turn p))
       shelf_tests = (lt-ltb _ _ (subst (λ (z : Plan). p < z.parties) (sym B.shelved.plan) in_p), (busy_true (activity_of (rules.means s) p) B.busy, tt))
 
       shelf_answers : C.turn_answer rules s p ≡ accepted (rules.answer s p)
@@ -274,7 +274,7 @@ module _ {R : Type 0} (kind : KindOf R) (rules : Rules R) (plan : N.Plan) (pl : 
           (by_answer T.then T.channel T.shelved T.puts (rules.answer s p) hub_answers
           (subst (λ (z : ℕ). ModelTurn z B.then p T.channel (said_of (rules.answer s p)) T.then) same_patience T.turn))
 
-    accepted_step : (k : Call) → All Passed (tests_of kind rules x k) → Stepped x h k (hub_after kind rules x k)
+    accepted_step : (k : Call) → AllByRecursion Passed (tests_of kind rules x k) → Stepped x h k (hub_after kind rules x k)
     accepted_step (Amendment p c v) a =
         order_step p (AmendmentTake c v) (amendment c v) (Amendment p c v) refl
         (sym (ap (order_event p (amendment c v)) (passes (tests_of kind rules x (Amendment p c v)) tt a))) (serves p a.0 a.1.0)

@@ -1,6 +1,6 @@
 -- Whatever is called, a shelf stays in a state of which its laws hold.
 use Rattle.std.proofs.Common.{◌≡◌, ℕ, ◌<◌, true, not, ◌≢◌, sym, refl, subst, arith}
-use Rattle.std.specs.List.{AllByRecursion as All}
+use Rattle.std.specs.List.{AllByRecursion}
 use Rattle.std.proofs.lemmas.Bool.{ltb-true}
 use Rattle.plan.specs.Refusals.{Outcome}
 use Rattle.plan.specs.declared.check.Plan.{Plan}
@@ -27,7 +27,7 @@ pub own_flat : (pl : Plan) (p i : ℕ) → i < pl.links → Own pl p (flat pl p 
 own_flat pl p i h = record { from = omega arith; to = omega arith }
 
 module _ {R : Type 0} (rules : Rules R) (s : rules.State) (ok : rules.sound s) where
-  sound_accepted : (k : Call R) → All Passed (tests_of (rules.plan s) (rules.means s) k) → rules.sound (state_after rules s k)
+  sound_accepted : (k : Call R) → AllByRecursion Passed (tests_of (rules.plan s) (rules.means s) k) → rules.sound (state_after rules s k)
   sound_accepted (Take p i c) t =
       (rules.takes s p (flat (rules.plan s) p i) c ok (ltb-true _ _ t.0) (own_flat (rules.plan s) p i (ltb-true _ _ t.1.1.0)) (ltb-true _ _ t.1.1.1.0) (idle_is _ t.1.0)).0.sound'
   sound_accepted (Put p i r) t =

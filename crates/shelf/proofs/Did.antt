@@ -1,6 +1,6 @@
 -- What a call does to the meaning of a shelf.
 use Rattle.std.proofs.Common.{◌≡◌, ℕ, ◌<◌, ◌≢◌, sym, refl, ap, ◌∙◌, subst}
-use Rattle.std.specs.List.{AllByRecursion as All}
+use Rattle.std.specs.List.{AllByRecursion}
 use Rattle.std.proofs.lemmas.Bool.{ltb-true}
 use Rattle.shelf.specs.Meaning.{flat, Own, vacant, idle, waits, take, put, check, Meaning, activity_of, link_at, does, linking}
 use Rattle.shelf.specs.Rules.{Rules, Keeps}
@@ -40,7 +40,7 @@ module _ {R : Type 0} (rules : Rules R) (s : rules.State) where
       meant = ap rules.means q ∙ t.1;
     }
 
-    by_call : (k : Call R) → All Passed (tests_of (rules.plan s) (rules.means s) k) → after rules s k ≡ state_after rules s k → Did k
+    by_call : (k : Call R) → AllByRecursion Passed (tests_of (rules.plan s) (rules.means s) k) → after rules s k ≡ state_after rules s k → Did k
     by_call (Take p i c) t q =
         let j : ℕ = flat (rules.plan s) p i in
         let h = ltb-true p (rules.plan s).parties t.0 in

@@ -1,6 +1,6 @@
 -- What the tests of a call tell when it is accepted, and the state and the answer then, for the maker of any shelf.
 use Rattle.std.proofs.Common.{◌≡◌, ℕ, ◌<◌, true, false, cond, not, ltb, ◌≢◌, List, [], ◌∷◌, sym, refl, ap, ◌∙◌, subst}
-use Rattle.std.specs.List.{AllByRecursion as All}
+use Rattle.std.specs.List.{AllByRecursion}
 use Rattle.std.proofs.lemmas.Bool.{ltb-true, lt-ltb, cond-true, cond-false}
 use Rattle.plan.specs.Refusals.{Test, accepted, refused, unless_refused}
 use Rattle.plan.specs.declared.check.Plan.{Plan}
@@ -14,7 +14,7 @@ use Rattle.shelf.proofs.After.{idle_is, full_is, own_flat}
 -- a party's link that passed the tests of a free one
 module _ {R : Type 0} (pl : Plan) (m : Meaning R) (p i at : ℕ) (us : List Test)
     (e : accepted at ≡ unless_refused (known pl m p ∷ free pl m p ∷ has_link pl m i ∷ us) (flat pl p i)) where
-  pub free_passed : All Passed (known pl m p ∷ free pl m p ∷ has_link pl m i ∷ us)
+  pub free_passed : AllByRecursion Passed (known pl m p ∷ free pl m p ∷ has_link pl m i ∷ us)
   free_passed = (accepted_passed (known pl m p ∷ free pl m p ∷ has_link pl m i ∷ us) (flat pl p i) at e).0
 
   pub number_is : at ≡ flat pl p i
@@ -36,7 +36,7 @@ link_full pl m p i at e =
     subst (λ (j : ℕ). link_at m j ≢ vacant) (sym (number_is pl m p i at (full pl m p i ∷ []) e)) (full_is _ (free_passed pl m p i at (full pl m p i ∷ []) e).1.1.1.0)
 
 -- an accepted call
-module _ {R : Type 0} (rules : Rules R) (s : rules.State) (k : Call R) (t : All Passed (tests_of (rules.plan s) (rules.means s) k)) where
+module _ {R : Type 0} (rules : Rules R) (s : rules.State) (k : Call R) (t : AllByRecursion Passed (tests_of (rules.plan s) (rules.means s) k)) where
   pub granted_by : accepted tt ≡ granted rules s k
   granted_by = sym (passes (tests_of (rules.plan s) (rules.means s) k) tt t)
 
@@ -56,7 +56,7 @@ module _ {R : Type 0} (rules : Rules R) (s : rules.State) (p : ℕ) (in_p : p < 
   busy_passes (waits o) n = refl
   busy_passes (in_force a) n = refl
 
-  pub turn_passes : activity_of (rules.means s) p ≢ idle → All Passed (tests_of (rules.plan s) (rules.means s) (Turn p))
+  pub turn_passes : activity_of (rules.means s) p ≢ idle → AllByRecursion Passed (tests_of (rules.plan s) (rules.means s) (Turn p))
   turn_passes n = (lt-ltb p (rules.plan s).parties in_p, (busy_passes (activity_of (rules.means s) p) n, tt))
 
   pub idle_answer : activity_of (rules.means s) p ≡ idle → refused 3 ≡ turn_answer rules s p

@@ -1,6 +1,6 @@
 -- Tests down the table of refusals: all passed, or refused by one.
 use Rattle.std.proofs.Common.{◌≡◌, ℕ, Bool, true, false, cond, List, [], ◌∷◌, ◌++◌, sym, refl, ap, ◌∙◌, arith}
-use Rattle.std.specs.List.{AllByRecursion as All}
+use Rattle.std.specs.List.{AllByRecursion}
 use Rattle.plan.specs.Refusals.{accepted, refused, Test, unless_refused}
 
 abbrev pub Passed : Test → Type 0
@@ -8,7 +8,7 @@ Passed t = t.passes ≡ true
 
 -- the ways of a list of tests
 pub data Ways {A : Type 0} (ts : List Test) (a : A) : Type 0 where
-  all_pass : All Passed ts → unless_refused ts a ≡ accepted a → Ways ts a
+  all_pass : AllByRecursion Passed ts → unless_refused ts a ≡ accepted a → Ways ts a
   one_refuses : (n : ℕ) → unless_refused ts a ≡ refused n → Ways ts a
 
 pub ways : {A : Type 0} (ts : List Test) (a : A) → Ways ts a
@@ -24,7 +24,7 @@ ways {A} (t ∷ ts) a = by_test t.passes refl (ways ts a)
     by_test true e (one_refuses n q) = one_refuses n (under true e ∙ q)
 
 -- where all pass
-pub passes : {A : Type 0} (ts : List Test) (a : A) → All Passed ts → unless_refused ts a ≡ accepted a
+pub passes : {A : Type 0} (ts : List Test) (a : A) → AllByRecursion Passed ts → unless_refused ts a ≡ accepted a
 passes [] a p = refl
 passes (t ∷ ts) a p = ap (λ (x : Bool). cond x (unless_refused ts a) (refused t.number)) p.0 ∙ passes ts a p.1
 
@@ -32,10 +32,10 @@ not_both : {A : Type 0} (a : A) (n : ℕ) → accepted a ≡ refused n → ⊥
 not_both a n e = let z : ◌≡◌ {A = ℕ} 0 1 = cc in omega arith
 
 -- tests that accepted were all passed, and gave their value
-pub accepted_passed : {A : Type 0} (ts : List Test) (a b : A) → accepted b ≡ unless_refused ts a → All Passed ts × (b ≡ a)
+pub accepted_passed : {A : Type 0} (ts : List Test) (a b : A) → accepted b ≡ unless_refused ts a → AllByRecursion Passed ts × (b ≡ a)
 accepted_passed {A} ts a b e = by_way (ways ts a)
   where
-    by_way : Ways ts a → All Passed ts × (b ≡ a)
+    by_way : Ways ts a → AllByRecursion Passed ts × (b ≡ a)
     by_way (all_pass p q) = (p, let r : accepted b ≡ accepted a = e ∙ q in cc)
     by_way (one_refuses n q) = absurd (not_both b n (e ∙ q))
 

@@ -1,6 +1,6 @@
 -- Every shelf is patient, by the turns left.
 use Rattle.std.proofs.Common.{◌≡◌, ℕ, ◌+◌, ◌<◌, ◌≤◌, Bool, true, false, cond, not, eqb, ◌≢◌, List, [], ◌∷◌, sym, refl, ap, ◌∙◌, subst, ⊎_elim, arith}
-use Rattle.std.specs.List.{AllByRecursion as All}
+use Rattle.std.specs.List.{AllByRecursion}
 use Rattle.shelf.proofs.Passing.{Passed, passes}
 use Rattle.std.proofs.lemmas.Bool.{cases_eq, lt-ltb, eq-eqb, ne_eqb}
 use Rattle.plan.specs.declared.check.Plan.{Plan}
@@ -57,7 +57,7 @@ module _ {R : Type 0} (rules : Rules R) where
 
     own : k ≡ Turn p → left' < rules.left s p
     own is =
-        let passed : All Passed (tests_of (rules.plan s) (rules.means s) (Turn p)) = (lt-ltb p (rules.plan s).parties known, (not_idle (activity_of (rules.means s) p) busy, tt)) in
+        let passed : AllByRecursion Passed (tests_of (rules.plan s) (rules.means s) (Turn p)) = (lt-ltb p (rules.plan s).parties known, (not_idle (activity_of (rules.means s) p) busy, tt)) in
         let e : after rules s k ≡ rules.turned s p = ap (after rules s) is ∙ ap (leaves s) (passes (tests_of (rules.plan s) (rules.means s) (Turn p)) (rules.turned s p) passed) in
         ⊎_elim (λ (f : activity_of (rules.means (rules.turned s p)) p ≡ idle). absurd (goes_on (ap (λ (t : rules.State). activity_of (rules.means t) p) e ∙ f)))
         (λ (f : rules.left (rules.turned s p) p < rules.left s p). omega (arith, f, ap (λ (t : rules.State). rules.left t p) e))

@@ -11,7 +11,7 @@ use Rattle.shelf.specs.Meaning.{Own, Link, vacant, holds, Operation, take as tak
 use Rattle.shelf.specs.Rules.{Rules, Fresh}
 use Rattle.shelf.specs.Calls.{Call, Turn, Look, is_idle, tests_of, leaves, after, turn_answer}
 use Rattle.shelf.proofs.Passing.{Passed, passes}
-use Rattle.std.specs.List.{AllByRecursion as All}
+use Rattle.std.specs.List.{AllByRecursion}
 use Rattle.shelf.specs.Laws.{after_all, caller_of, shown_by, state_at, call_at, ComesAt, StoresAt, NoneBetween, HeldSince, SinceTake, HasAnswer, IdealLinks}
 use Rattle.shelf.proofs.Basics.{own_apart, own_below}
 use Rattle.shelf.proofs.After.{sound_after}
@@ -191,7 +191,7 @@ module _ {R : Type 0} (rules : Rules R) where
         let ok = (good t).is_sound in
         let known = busy_known t p o w in
         let n : activity_of (rules.means s) p ≢ idle = λ z. waits_not_idle o (sym w ∙ z) in
-        let passed : All Passed (tests_of (rules.plan s) (rules.means s) (Turn p)) =
+        let passed : AllByRecursion Passed (tests_of (rules.plan s) (rules.means s) (Turn p)) =
         (lt-ltb p (rules.plan s).parties known, (ap (λ (x : Activity R). not (is_idle x)) w, tt)) in
         let went : at (suc t) ≡ rules.turned s p =
         next t h ∙ (ap (after rules s) e ∙ ap (leaves s) (passes (tests_of (rules.plan s) (rules.means s) (Turn p)) (rules.turned s p) passed)) in
