@@ -233,7 +233,7 @@ def main():
     parser = argparse.ArgumentParser(description=__doc__.splitlines()[0])
     parser.add_argument("--seed", type=int, default=1)
     parser.add_argument("--count", type=int, default=12000)
-    parser.add_argument("--program", default=str(ROOT / "target/bin/list_sheet"))
+    parser.add_argument("--program", default=str(ROOT / "crates/list_sheet/out/list_sheet"))
     args = parser.parse_args()
 
     made = sheets(random.Random(args.seed), args.count)

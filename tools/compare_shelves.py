@@ -651,7 +651,7 @@ def main():
     parser.add_argument("--schedules", type=int, default=1000)
     parser.add_argument("--steps", type=int, default=1000)
     parser.add_argument("--seed", type=int, default=1)
-    parser.add_argument("--program", default=str(ROOT / "target/bin/drive_shelf"))
+    parser.add_argument("--program", default=str(ROOT / "crates/drive_shelf/out/drive_shelf"))
     parser.add_argument("--plan", type=int, nargs=5, metavar=("SHELF", "N", "K", "C", "BLOCKS"),
                         help="use this plan in every schedule; SHELF is 0 (flag) or 1 (block)")
     parser.add_argument("--write", metavar="DIR",
