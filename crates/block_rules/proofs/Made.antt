@@ -64,11 +64,11 @@ module _ {R : Type 0} (d : R) where
       is_blank = fresh_means;
     }
 
-    made_accepted : (given : Plan) → accepted given ≡ plan_verdict pl.parties pl.links pl.channels Block (length row) → fresh pl blanked ≡ made d pl row
+    made_accepted : (given : Plan) → accepted given ≡ plan_verdict pl Block (length row) → fresh pl blanked ≡ made d pl row
     made_accepted given e =
         let t = plan_accepted pl Block (length row) given e in
         ap (λ (x : Plan). made_by d row (accepted x)) (sym t.same) ∙ ap (made_by d row) e
 
-    pub made_fresh : (given : Plan) → accepted given ≡ plan_verdict pl.parties pl.links pl.channels Block (length row) → Fresh (block_shelf_rules d) (made d pl row)
+    pub made_fresh : (given : Plan) → accepted given ≡ plan_verdict pl Block (length row) → Fresh (block_shelf_rules d) (made d pl row)
     made_fresh given e =
         subst (Fresh (block_shelf_rules d)) (made_accepted given e) (is_fresh (plan_accepted pl Block (length row) given e).in_range)

@@ -85,7 +85,7 @@ made_by d row (accepted pl) = fresh pl (replicate (need Block pl) d ++ drop (nee
 made_by d row (refused n) = state_of no_plan row [] [] []
 
 abbrev pub made : {R : Type 0} → R → Plan → List R → State R
-made d pl row = made_by d row (plan_verdict pl.parties pl.links pl.channels Block (length row))
+made d pl row = made_by d row (plan_verdict pl Block (length row))
 
 -- ** the parts of a step
 

@@ -31,8 +31,8 @@ start = made 0 small (replicate 7 9999)
 
 pub record WorkedRuns : Type 0 where
   -- seven blocks suffice, six do not
-  pub suffice : plan_verdict 2 1 1 Block 7 ≡ accepted small
-  pub too_few : plan_verdict 2 1 1 Block 6 ≡ refused 14
+  pub suffice : plan_verdict small Block 7 ≡ accepted small
+  pub too_few : plan_verdict small Block 6 ≡ refused 14
   -- the first put ends in one turn, and the third goes on with a scan of two turns more
   pub first_ends : (party (pair start 0 5 1) 0).job ≡ Idle
   pub scan_starts : (party (third start 1) 0).job ≡ Scanning 0 0

@@ -73,10 +73,10 @@ module _ (pl : Plan) (small : Small pl) (n w : ℕ) (in_n : n < pl.parties) (is 
 
 module _ {R : Type 0} (d : R) (pl : Plan) (row : List R) where
   module _ (blocks : ℕ) (b : blocks ≡ length row) where
-    checked : {o : Outcome Plan} → o ≡ plan_verdict pl.parties pl.links pl.channels Block blocks → o ≡ plan_verdict pl.parties pl.links pl.channels Block (length row)
-    checked e = e ∙ ap (plan_verdict pl.parties pl.links pl.channels Block) b
+    checked : {o : Outcome Plan} → o ≡ plan_verdict pl Block blocks → o ≡ plan_verdict pl Block (length row)
+    checked e = e ∙ ap (plan_verdict pl Block) b
 
-    module _ (given : Plan) (e : accepted given ≡ plan_verdict pl.parties pl.links pl.channels Block blocks) where
+    module _ (given : Plan) (e : accepted given ≡ plan_verdict pl Block blocks) where
       pub given_small : Small given
       given_small = let t = plan_accepted pl Block (length row) given (checked e) in subst Small (sym t.same) (range_small pl t.in_range)
 
@@ -95,19 +95,19 @@ module _ {R : Type 0} (d : R) (pl : Plan) (row : List R) where
       pub made_sound : (t : State R) → t ≡ made d pl row → ∥ Sound t ∥₁
       made_sound t q = ∣ subst Sound (sym q) (made_fresh d pl row given (checked e)).is_sound ∣₁
 
-      pub not_refused : (n : ℕ) → refused n ≡ plan_verdict pl.parties pl.links pl.channels Block (length row) → ⊥
+      pub not_refused : (n : ℕ) → refused n ≡ plan_verdict pl Block (length row) → ⊥
       not_refused n q = let both : accepted given ≡ refused n = checked e ∙ sym q in let z : ◌≡◌ {A = ℕ} 0 1 = cc in omega arith
 
     module _ (current : List ℕ) (links : List LinkState) (seats : List Seat) (c : current ≡ []) (l : links ≡ []) (q : seats ≡ []) where
       empty_state : state_of no_plan row current links (map party_of seats) ≡ state_of no_plan row [] [] []
       empty_state = λ i. state_of no_plan row (c i) (l i) (map party_of (q i))
 
-      pub none_state : (n : ℕ) → refused n ≡ plan_verdict pl.parties pl.links pl.channels Block blocks → state_of no_plan row current links (map party_of seats) ≡ made d pl row
+      pub none_state : (n : ℕ) → refused n ≡ plan_verdict pl Block blocks → state_of no_plan row current links (map party_of seats) ≡ made d pl row
       none_state n e = empty_state ∙ ap (made_by d row) (checked e)
 
       pub none_sound : ∥ Sound (state_of no_plan row current links (map party_of seats)) ∥₁
       none_sound = ∣ subst Sound (sym empty_state) (nothing_sound d row) ∣₁
 
   -- whatever state is made, it is fresh if the check accepts
-  pub fresh_made : (t : State R) → t ≡ made d pl row → (given : Plan) → accepted given ≡ plan_verdict pl.parties pl.links pl.channels Block (length row) → Fresh (block_shelf_rules d) t
+  pub fresh_made : (t : State R) → t ≡ made d pl row → (given : Plan) → accepted given ≡ plan_verdict pl Block (length row) → Fresh (block_shelf_rules d) t
   fresh_made t q given e = subst (Fresh (block_shelf_rules d)) (sym q) (made_fresh d pl row given e)

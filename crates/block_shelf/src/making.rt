@@ -71,17 +71,11 @@ impl<'a, R: Reading> BlockShelf<'a, R> {
         row: BlockRow<'a, R>,
     ) -> Result<BlockShelf<'a, R>, AllocError>
         ensures state { IfOk result (λ s. block_state s ≡ made R.Reading.kind.blank plan row.entry.blocks.now) }
-        ensures fresh { IfOk result (λ s. (given : PlanIn) → accepted given ≡ plan_verdict plan.parties plan.links plan.channels Block (length row.entry.blocks.now) → Fresh (block_shelf_rules R.Reading.kind.blank) (block_state s)) }
+        ensures fresh { IfOk result (λ s. (given : PlanIn) → accepted given ≡ plan_verdict plan Block (length row.entry.blocks.now) → Fresh (block_shelf_rules R.Reading.kind.blank) (block_state s)) }
         ensures lent { IfOk result (λ s. s.row.blocks.ghost_name ≡ row.entry.blocks.ghost_name) }
-        ensures succeeds { (n : ℕ) → refused n ≡ plan_verdict plan.parties plan.links plan.channels Block (length row.entry.blocks.now) → is_ok result ≡ true }
+        ensures succeeds { (n : ℕ) → refused n ≡ plan_verdict plan Block (length row.entry.blocks.now) → is_ok result ≡ true }
     {
-        match check_plan(
-            plan.parties,
-            plan.links,
-            plan.channels,
-            ShelfType::Block,
-            row.len(),
-        ) {
+        match check_plan(plan, ShelfType::Block, row.len()) {
             Ok(plan) => {
                 let current = first_blocks(heap, plan.channels)?;
                 let unused = LinkState {

@@ -70,14 +70,14 @@ module _ {R : Type 0} (d : R) where
     is_fresh r = record { is_sound = fresh_sound r; in_range = r; is_blank = fresh_means }
 
     -- the state that is made, when the check accepts and when it refuses
-    pub made_accepted : (given : Plan) → accepted given ≡ plan_verdict pl.parties pl.links pl.channels Flag (length row) → fresh ≡ made d pl row
+    pub made_accepted : (given : Plan) → accepted given ≡ plan_verdict pl Flag (length row) → fresh ≡ made d pl row
     made_accepted given e =
         let t = plan_accepted pl Flag (length row) given e in
         ap (λ (x : Plan). made_by d row (accepted x)) (sym t.same) ∙ ap (made_by d row) e
 
-    pub made_fresh : (given : Plan) → accepted given ≡ plan_verdict pl.parties pl.links pl.channels Flag (length row) → Fresh (flag_shelf_rules d) (made d pl row)
+    pub made_fresh : (given : Plan) → accepted given ≡ plan_verdict pl Flag (length row) → Fresh (flag_shelf_rules d) (made d pl row)
     made_fresh given e =
         subst (Fresh (flag_shelf_rules d)) (made_accepted given e) (is_fresh (plan_accepted pl Flag (length row) given e).in_range)
 
-    pub made_refused : (n : ℕ) → refused n ≡ plan_verdict pl.parties pl.links pl.channels Flag (length row) → state_of no_plan row [] [] ≡ made d pl row
+    pub made_refused : (n : ℕ) → refused n ≡ plan_verdict pl Flag (length row) → state_of no_plan row [] [] ≡ made d pl row
     made_refused n e = ap (made_by d row) e

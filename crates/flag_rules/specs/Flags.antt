@@ -138,4 +138,4 @@ made_by d row (accepted pl) = state_of pl (replicate (need Flag pl) d ++ drop (n
 made_by d row (refused n) = state_of no_plan row [] []
 
 abbrev pub made : {R : Type 0} → R → Plan → List R → State R
-made d pl row = made_by d row (plan_verdict pl.parties pl.links pl.channels Flag (length row))
+made d pl row = made_by d row (plan_verdict pl Flag (length row))

@@ -26,10 +26,10 @@ blank_more {R} x y old row row' i h e q w =
 
 module _ {R : Type 0} (d : R) (pl : Plan) (row : List R) where
   module _ (blocks : ℕ) (b : blocks ≡ length row) where
-    checked : {o : Outcome Plan} → o ≡ plan_verdict pl.parties pl.links pl.channels Flag blocks → o ≡ plan_verdict pl.parties pl.links pl.channels Flag (length row)
-    checked e = e ∙ ap (plan_verdict pl.parties pl.links pl.channels Flag) b
+    checked : {o : Outcome Plan} → o ≡ plan_verdict pl Flag blocks → o ≡ plan_verdict pl Flag (length row)
+    checked e = e ∙ ap (plan_verdict pl Flag) b
 
-    module _ (given : Plan) (e : accepted given ≡ plan_verdict pl.parties pl.links pl.channels Flag blocks) where
+    module _ (given : Plan) (e : accepted given ≡ plan_verdict pl Flag blocks) where
       pub enough : need Flag given ≤ length row
       enough =
           let t = plan_accepted pl Flag (length row) given (checked e) in
@@ -46,10 +46,10 @@ module _ {R : Type 0} (d : R) (pl : Plan) (row : List R) where
       pub made_sound : (t : State R) → t ≡ made d pl row → ∥ Sound t ∥₁
       made_sound t q = ∣ subst Sound (sym q) (made_fresh d pl row given (checked e)).is_sound ∣₁
 
-      pub not_refused : (n : ℕ) → refused n ≡ plan_verdict pl.parties pl.links pl.channels Flag (length row) → ⊥
+      pub not_refused : (n : ℕ) → refused n ≡ plan_verdict pl Flag (length row) → ⊥
       not_refused n q = let both : accepted given ≡ refused n = checked e ∙ sym q in let z : ◌≡◌ {A = ℕ} 0 1 = cc in omega arith
 
-    pub none_state : (n : ℕ) → refused n ≡ plan_verdict pl.parties pl.links pl.channels Flag blocks
+    pub none_state : (n : ℕ) → refused n ≡ plan_verdict pl Flag blocks
         → (marks : List Mark) (jobs : List (Job R)) → marks ≡ [] → jobs ≡ [] → state_of no_plan row marks jobs ≡ made d pl row
     none_state n e marks jobs m j =
         ap (λ (ms : List Mark). state_of no_plan row ms jobs) m ∙ (ap (λ (js : List (Job R)). state_of no_plan row [] js) j ∙ ap (made_by d row) (checked e))
@@ -59,5 +59,5 @@ module _ {R : Type 0} (d : R) (pl : Plan) (row : List R) where
         ∣ subst Sound (sym (ap (λ (ms : List Mark). state_of no_plan row ms jobs) m ∙ ap (λ (js : List (Job R)). state_of no_plan row [] js) j)) (nothing_sound d row) ∣₁
 
   -- whatever state is made, it is fresh if the check accepts
-  pub fresh_made : (t : State R) → t ≡ made d pl row → (given : Plan) → accepted given ≡ plan_verdict pl.parties pl.links pl.channels Flag (length row) → Fresh (flag_shelf_rules d) t
+  pub fresh_made : (t : State R) → t ≡ made d pl row → (given : Plan) → accepted given ≡ plan_verdict pl Flag (length row) → Fresh (flag_shelf_rules d) t
   fresh_made t q given e = subst (Fresh (flag_shelf_rules d)) (sym q) (made_fresh d pl row given e)

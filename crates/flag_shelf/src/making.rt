@@ -48,17 +48,11 @@ impl<'a, R: Reading> FlagShelf<'a, R> {
         row: BlockRow<'a, R>,
     ) -> Result<FlagShelf<'a, R>, AllocError>
         ensures state { IfOk result (λ s. flag_state s ≡ made R.Reading.kind.blank plan row.entry.blocks.now) }
-        ensures fresh { IfOk result (λ s. (given : PlanIn) → accepted given ≡ plan_verdict plan.parties plan.links plan.channels Flag (length row.entry.blocks.now) → Fresh (flag_shelf_rules R.Reading.kind.blank) (flag_state s)) }
+        ensures fresh { IfOk result (λ s. (given : PlanIn) → accepted given ≡ plan_verdict plan Flag (length row.entry.blocks.now) → Fresh (flag_shelf_rules R.Reading.kind.blank) (flag_state s)) }
         ensures lent { IfOk result (λ s. s.row.blocks.ghost_name ≡ row.entry.blocks.ghost_name) }
-        ensures succeeds { (n : ℕ) → refused n ≡ plan_verdict plan.parties plan.links plan.channels Flag (length row.entry.blocks.now) → is_ok result ≡ true }
+        ensures succeeds { (n : ℕ) → refused n ≡ plan_verdict plan Flag (length row.entry.blocks.now) → is_ok result ≡ true }
     {
-        match check_plan(
-            plan.parties,
-            plan.links,
-            plan.channels,
-            ShelfType::Flag,
-            row.len(),
-        ) {
+        match check_plan(plan, ShelfType::Flag, row.len()) {
             Ok(plan) => {
                 let marks = filled(heap, Mark::Empty, plan.all_links())?;
                 let jobs = filled(heap, Job::Idle, plan.parties as usize)?;

@@ -24,13 +24,12 @@ abbrev pub between : ℕ → ℕ → ℕ → Bool
 between low high n = nat_le low n && nat_le n high
 
 -- the check of a plan: its tests in order, and the plan
-abbrev pub plan_verdict : ℕ → ℕ → ℕ → ShelfType → ℕ → Outcome Plan
-plan_verdict n k c shelf blocks =
-    let plan : Plan = record { parties = n; links = k; channels = c } in
+abbrev pub plan_verdict : Plan → ShelfType → ℕ → Outcome Plan
+plan_verdict plan shelf blocks =
     unless_refused
-    (record { number = 11; passes = between 1 24 n }
-    ∷ record { number = 12; passes = between 1 4 k }
-    ∷ record { number = 13; passes = between 1 64 c }
+    (record { number = 11; passes = between 1 24 plan.parties }
+    ∷ record { number = 12; passes = between 1 4 plan.links }
+    ∷ record { number = 13; passes = between 1 64 plan.channels }
     ∷ record { number = 14; passes = nat_le (need shelf plan) blocks }
     ∷ [])
     plan

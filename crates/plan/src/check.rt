@@ -3,12 +3,22 @@ ghost use Rattle.plan.specs.Refusals.{told};
 ghost use Rattle.plan.specs.Plans.{width, need, patience, plan_verdict};
 
 use crate::refusal::Refusal;
+use std::fmt;
 
 /// The two shelves on which a hub can stand.
 #[derive(Clone, Copy, PartialEq, Eq, Debug)]
 pub enum ShelfType {
     Flag,
     Block,
+}
+
+impl fmt::Display for ShelfType {
+    fn fmt<W: fmt::Write>(&self, f: &mut fmt::Formatter<W>) -> fmt::Result {
+        f.write_str(match self {
+            ShelfType::Flag => "flag",
+            ShelfType::Block => "block",
+        })
+    }
 }
 
 /// The sizes of a hub: N parties, K links for each party, C channels.
@@ -50,30 +60,19 @@ impl Plan {
     }
 }
 
-/// The plan of these sizes, if each is in its range and the blocks suffice for the shelf.
-pub fn check_plan(
-    parties: u8,
-    links: u8,
-    channels: u8,
-    shelf: ShelfType,
-    blocks: usize,
-) -> Result<Plan, Refusal>
-    ensures { told result ≡ plan_verdict parties links channels shelf blocks }
+/// The plan itself, if each size is in its range and the blocks suffice for the shelf.
+pub fn check_plan(plan: Plan, shelf: ShelfType, blocks: usize) -> Result<Plan, Refusal>
+    ensures { told result ≡ plan_verdict plan shelf blocks }
 {
-    if parties < 1 || parties > 24 {
+    if !(1..=24).contains(&plan.parties) {
         return Err(Refusal::PartiesOutOfRange);
     }
-    if links < 1 || links > 4 {
+    if !(1..=4).contains(&plan.links) {
         return Err(Refusal::LinksOutOfRange);
     }
-    if channels < 1 || channels > 64 {
+    if !(1..=64).contains(&plan.channels) {
         return Err(Refusal::ChannelsOutOfRange);
     }
-    let plan = Plan {
-        parties,
-        links,
-        channels,
-    };
     if blocks < plan.blocks_needed(shelf) {
         return Err(Refusal::TooFewBlocks);
     }

@@ -6,43 +6,43 @@ ghost use Rattle.plan.specs.Refusals.{refusal_number, OwnNumbers};
 #[derive(Clone, Copy, PartialEq, Eq, Debug)]
 pub enum Refusal {
     /// 1: the party is not below N, or the shelf has none.
-    NoSuchParty,
+    NoSuchParty = 1,
     /// 2: the party has an operation running.
-    PartyBusy,
+    PartyBusy = 2,
     /// 3: the party has no operation running.
-    NothingRunning,
+    NothingRunning = 3,
     /// 4: the link is not below K.
-    NoSuchLink,
+    NoSuchLink = 4,
     /// 5: the picture's list is empty or longer than K.
-    ListLength,
+    ListLength = 5,
     /// 6: a channel is not below C.
-    NoSuchChannel,
+    NoSuchChannel = 6,
     /// 7: a channel is listed twice.
-    ChannelRepeated,
+    ChannelRepeated = 7,
     /// 8: the link is empty.
-    LinkEmpty,
+    LinkEmpty = 8,
     /// 9: the kind of reading does not admit the word.
-    WordNotAdmitted,
+    WordNotAdmitted = 9,
     /// 10: the block is not below the shelf's need.
-    NoSuchBlock,
+    NoSuchBlock = 10,
     /// 11: N is outside its range.
-    PartiesOutOfRange,
+    PartiesOutOfRange = 11,
     /// 12: K is outside its range.
-    LinksOutOfRange,
+    LinksOutOfRange = 12,
     /// 13: C is outside its range.
-    ChannelsOutOfRange,
+    ChannelsOutOfRange = 13,
     /// 14: there are fewer blocks than the shelf needs.
-    TooFewBlocks,
+    TooFewBlocks = 14,
     /// 20: the sheet ends before a field does.
-    SheetEndsEarly,
+    SheetEndsEarly = 20,
     /// 21: version, kind, shelf or spare is wrong.
-    WrongHeader,
+    WrongHeader = 21,
     /// 22: no record has this code.
-    UnknownCode,
+    UnknownCode = 22,
     /// 23: a set bit or a further byte follows the end.
-    NotEmptyAfterEnd,
+    NotEmptyAfterEnd = 23,
     /// 24: the sheet has more than 65,536 bytes.
-    SheetTooLong,
+    SheetTooLong = 24,
 }
 
 impl Refusal {
@@ -50,27 +50,7 @@ impl Refusal {
     pub fn number(self) -> u8
         ensures { result ≡ refusal_number self }
     {
-        match self {
-            Refusal::NoSuchParty => 1,
-            Refusal::PartyBusy => 2,
-            Refusal::NothingRunning => 3,
-            Refusal::NoSuchLink => 4,
-            Refusal::ListLength => 5,
-            Refusal::NoSuchChannel => 6,
-            Refusal::ChannelRepeated => 7,
-            Refusal::LinkEmpty => 8,
-            Refusal::WordNotAdmitted => 9,
-            Refusal::NoSuchBlock => 10,
-            Refusal::PartiesOutOfRange => 11,
-            Refusal::LinksOutOfRange => 12,
-            Refusal::ChannelsOutOfRange => 13,
-            Refusal::TooFewBlocks => 14,
-            Refusal::SheetEndsEarly => 20,
-            Refusal::WrongHeader => 21,
-            Refusal::UnknownCode => 22,
-            Refusal::NotEmptyAfterEnd => 23,
-            Refusal::SheetTooLong => 24,
-        }
+        self as u8
     }
 
     /// Does nothing; promises that no two refusals have one number.

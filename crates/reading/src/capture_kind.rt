@@ -40,16 +40,13 @@ impl Reading for Capture {
         samples == 0 || first + samples < 1 << 32
     }
 
-    fn amended(self, word: u64) -> Capture {
+    fn amended(mut self, word: u64) -> Capture {
         let first = first_field(word);
         let samples = samples_field(word);
         let levels = levels_field(word);
         if samples == 0 {
-            Capture {
-                first: self.first,
-                samples: self.samples,
-                levels,
-            }
+            self.levels = levels;
+            self
         } else if (first as u64) + (samples as u64) < 1 << 32 {
             Capture {
                 first,

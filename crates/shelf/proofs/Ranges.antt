@@ -12,7 +12,7 @@ pub record Accepted (pl : Plan) (shelf : ShelfType) (blocks : ℕ) (given : Plan
   pub in_range : InRange pl
   pub enough : need shelf pl ≤ blocks
 
-module _ (pl : Plan) (shelf : ShelfType) (blocks : ℕ) (given : Plan) (e : accepted given ≡ plan_verdict pl.parties pl.links pl.channels shelf blocks) where
+module _ (pl : Plan) (shelf : ShelfType) (blocks : ℕ) (given : Plan) (e : accepted given ≡ plan_verdict pl shelf blocks) where
   tests : List Test
   tests =
       record { number = 11; passes = between 1 24 pl.parties }
