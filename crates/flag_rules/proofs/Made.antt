@@ -1,7 +1,7 @@
 -- A flag shelf that was just made.
 use Rattle.std.proofs.Common.{◌≡◌, ℕ, zero, suc, List, [], ◌∷◌, ◌++◌, map, length, get_or, take, drop, replicate, sym, refl, ap, ◌∙◌, subst, arith}
 use Rattle.std.proofs.lemmas.List.{length-append, length-replicate, take-append-le, take-replicate}
-use Rattle.plan.specs.Plans.{width, need, plan_verdict, InRange}
+use Rattle.plan.specs.Plans.{width, need, plan_verdict, no_plan, InRange}
 use Rattle.plan.specs.Refusals.{accepted, refused}
 use Rattle.plan.specs.declared.check.Plan.{Plan}
 use Rattle.plan.specs.declared.check.ShelfType.TheVariants.{Flag}
@@ -11,7 +11,7 @@ use Rattle.shelf.proofs.Ranges.{plan_accepted, range_small}
 use Rattle.flag_rules.specs.declared.parts.Mark.TheVariants.{Empty}
 use Rattle.flag_rules.specs.declared.parts.Job.{Job}
 use Rattle.flag_rules.specs.declared.parts.Job.TheVariants.{Idle}
-use Rattle.flag_rules.specs.Flags.{State, state_of, no_plan, made_by, made, MarkFits, JobFits, Sound}
+use Rattle.flag_rules.specs.Flags.{State, state_of, made_by, made, MarkFits, JobFits, Sound}
 use Rattle.flag_rules.specs.Means.{links_of, activity_in, means}
 use Rattle.flag_rules.proofs.AsShelf.{flag_shelf_rules}
 

@@ -1,7 +1,7 @@
 -- The exact rules of the flag shelf: channel c's reading in block c, that of link j in block C + j, and a mark for each link.
 -- Each operation comes into force and ends in one turn. A link is given by its number among the links of all parties.
 use Rattle.std.specs.Prelude.{◌≡◌, ℕ, ◌+◌, ◌<◌, ◌≤◌, Bool, true, false, cond, List, [], ◌++◌, map, length, drop, replicate, ◌==◌, slice_index_or, slice_set}
-use Rattle.plan.specs.Plans.{width, need, plan_verdict, Small}
+use Rattle.plan.specs.Plans.{width, need, plan_verdict, no_plan, Small}
 use Rattle.plan.specs.Refusals.{Outcome, accepted, refused}
 use Rattle.plan.specs.declared.check.Plan.{Plan}
 use Rattle.plan.specs.declared.check.ShelfType.TheVariants.{Flag}
@@ -128,9 +128,6 @@ abbrev pub state_of : {R : Type 0} → Plan → List R → List Mark → List (J
 state_of plan row marks jobs = record { plan = plan; row = row; marks = marks; jobs = jobs }
 
 -- ** the making
-
-abbrev pub no_plan : Plan
-no_plan = record { parties = 0; links = 0; channels = 0 }
 
 -- an accepted plan blanks the blocks of its need and no others; a refused one gives a shelf without parties or need, and touches no block
 abbrev pub made_by : {R : Type 0} → R → List R → Outcome Plan → State R

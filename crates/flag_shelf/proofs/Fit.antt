@@ -1,7 +1,7 @@
 -- A flag shelf's fields fit each other, and go on to, on the lists that they hold.
-use Rattle.std.proofs.Common.{◌≡◌, ℕ, ◌+◌, ◌^◌, ◌<◌, true, false, cond, not, ltb, List, [], ◌∷◌, map, length, get_or, drop, set, sym, refl, ap, ◌∙◌, subst, arith}
+use Rattle.std.proofs.Common.{◌≡◌, ℕ, ◌+◌, ◌^◌, ◌<◌, true, false, cond, not, ltb, ◌≢◌, List, [], ◌∷◌, map, length, get_or, drop, set, sym, refl, ap, ◌∙◌, subst, arith}
 use Rattle.flag_rules.proofs.AsShelf.{flag_shelf_rules}
-use Rattle.std.proofs.lemmas.List.{get_or-drop}
+use Rattle.std.proofs.lemmas.List.{get_or-drop, get_or_past}
 use Rattle.std.specs.List.{AllByRecursion}
 use Rattle.std.proofs.lemmas.Nat.{mul-le}
 use Rattle.std.proofs.lemmas.Bool.{ltb-true, lt-ltb, cond-true, cond-false}
@@ -31,6 +31,13 @@ module _ {R : Type 0} (d : R) (pl : Plan) (row : List R) (marks : List Mark) (jo
 
   pub job_there : (p : ℕ) → p < pl.parties → p < length jobs
   job_there p h = omega (arith, ok.jobs)
+
+  -- a party that waits for something is there
+  pub party_there : (p : ℕ) (job : Job R) → job_of now p ≡ job → is_idle (activity_in job) ≡ false → p < pl.parties
+  party_there p job e w =
+      let n : job_of now p ≢ Idle = λ q.
+      (let u : is_idle (activity_in job) ≡ true = ap (λ (x : Job R). is_idle (activity_in x)) (sym e ∙ q) in let z : ◌≡◌ {A = ℕ} 0 1 = cc in absurd (omega arith)) in
+      grind (arith, get_or_past jobs p Idle, ok.jobs, n)
 
   -- a link of a party that is there
   module _ (p j : ℕ) (in_p : p < pl.parties) (own : Own pl p j) where
@@ -107,6 +114,12 @@ module _ {R : Type 0} (d : R) (pl : Plan) (row : List R) (marks : List Mark) (jo
       → state_of pl row' (set marks at (Live c)) (set jobs p Idle) ≡ taken d (state_of pl row marks jobs) p at c
   taken_is at c x row' e q =
       ap (λ (xs : List R). state_of pl xs (set marks at (Live c)) (set jobs p Idle)) (e ∙ ap (set row (pl.channels + at)) q)
+
+  pub missed_is : (at : ℕ) (r : R) (m : Mark) → ((c : ℕ) → m ≡ Live c → ⊥) → m ≡ get_or marks at Empty
+      → state_of pl row marks (set jobs p Idle) ≡ put_by (state_of pl row marks jobs) p r (get_or marks at Empty)
+  missed_is at r Empty n e = ap (put_by (state_of pl row marks jobs) p r) e
+  missed_is at r (Live c) n e = absurd (n c refl)
+  missed_is at r (Broken c) n e = ap (put_by (state_of pl row marks jobs) p r) e
 
   pub stored_is : (at c : ℕ) (r : R) (row' : List R) (marks' : List Mark) → row' ≡ set row c r → marks' ≡ map (break_mark c) marks → Live c ≡ get_or marks at Empty
       → state_of pl row' marks' (set jobs p Idle) ≡ put_by (state_of pl row marks jobs) p r (get_or marks at Empty)

@@ -1,4 +1,6 @@
+ghost use Rattle.std.specs.Prelude.{refl};
 ghost use Rattle.flag_rules.proofs.AsShelf.{flag_shelf_rules};
+ghost use Rattle.flag_rules.proofs.Steps.{sound_out};
 ghost use Rattle.flag_shelf.specs.States.{flag_state};
 
 use crate::flag::FlagShelf;
@@ -7,6 +9,7 @@ use plan::check::Plan;
 use plan::refusal::Refusal;
 use reading::kind::Reading;
 use shelf::answer::Answer;
+use shelf::numbering::Standing;
 use shelf::shelf::Shelf;
 
 impl<'a, R: Reading> Shelf for FlagShelf<'a, R> {
@@ -16,7 +19,9 @@ impl<'a, R: Reading> Shelf for FlagShelf<'a, R> {
 
     ghost state = { λ s. flag_state s };
 
-    fn attest(&self) {}
+    ghost sound = { λ s. sound_out (flag_state s) s.sound };
+
+    ghost blank = { refl };
 
     fn plan(&self) -> Plan {
         self.plan

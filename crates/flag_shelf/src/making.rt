@@ -1,42 +1,21 @@
-ghost use Rattle.std.specs.Prelude.{◌≡◌, ℕ, ◌≤◌, true, ◌++◌, length, drop, replicate, is_ok, IfOk};
+ghost use Rattle.std.specs.Prelude.{◌≡◌, ℕ, true, length, is_ok, IfOk};
 ghost use Rattle.plan.specs.Refusals.{accepted, refused};
-ghost use Rattle.plan.specs.Plans.{plan_verdict};
+ghost use Rattle.plan.specs.Plans.{need, plan_verdict};
 ghost use Rattle.plan.specs.declared.check.Plan.{Plan as PlanIn};
 ghost use Rattle.plan.specs.declared.check.ShelfType.TheVariants.{Flag};
 ghost use Rattle.shelf.specs.Rules.{Fresh};
+ghost use Rattle.shelf.specs.Beyond.{BeyondStays};
 ghost use Rattle.flag_rules.specs.Flags.{made};
 ghost use Rattle.flag_rules.proofs.AsShelf.{flag_shelf_rules};
 ghost use Rattle.flag_shelf.specs.States.{flag_state};
-ghost use Rattle.flag_shelf.specs.Beyond.{BeyondStays};
 
 use crate::flag::FlagShelf;
 use flag_rules::parts::{Job, Mark};
 use plan::check::{Plan, ShelfType, check_plan};
 use reading::kind::Reading;
+use shelf::making::filled;
 use shelf::row::BlockRow;
 use std::alloc::{AllocError, Global};
-
-// A list of n times x.
-fn filled<T: Copy + Drop>(heap: Global, x: T, n: usize) -> Result<Vec<T>, AllocError>
-    ensures { IfOk result (λ v. v.items ≡ replicate n x) }
-{
-    let mut list = Vec::new(heap);
-    for _i in 0..n {
-        list.push(x)?;
-    }
-    Ok(list)
-}
-
-// Blanks the first n blocks of a row.
-fn blank_blocks<R: Reading>(row: &mut BlockRow<R>, n: usize)
-    requires { n ≤ length row.old.blocks.now }
-    ensures blocks { row.new.blocks.now ≡ replicate n R.Reading.kind.blank ++ drop n row.old.blocks.now }
-    ensures lent { row.new.blocks.ghost_name ≡ row.old.blocks.ghost_name }
-{
-    for b in 0..n {
-        row.write(b, R::blank());
-    }
-}
 
 impl<'a, R: Reading> FlagShelf<'a, R> {
     /// A shelf of a plan, on a row of blocks. If the plan check accepts, the blocks of the need are blanked, and no
@@ -52,37 +31,21 @@ impl<'a, R: Reading> FlagShelf<'a, R> {
         ensures lent { IfOk result (λ s. s.row.blocks.ghost_name ≡ row.entry.blocks.ghost_name) }
         ensures succeeds { (n : ℕ) → refused n ≡ plan_verdict plan Flag (length row.entry.blocks.now) → is_ok result ≡ true }
     {
-        match check_plan(plan, ShelfType::Flag, row.len()) {
-            Ok(plan) => {
-                let marks = filled(heap, Mark::Empty, plan.all_links())?;
-                let jobs = filled(heap, Job::Idle, plan.parties as usize)?;
-                let mut row = row;
-                blank_blocks(&mut row, plan.blocks_needed(ShelfType::Flag));
-                Ok(FlagShelf {
-                    plan,
-                    row,
-                    marks,
-                    jobs,
-                })
-            }
-            Err(_) => {
-                let plan = Plan {
-                    parties: 0,
-                    links: 0,
-                    channels: 0,
-                };
-                Ok(FlagShelf {
-                    plan,
-                    row,
-                    marks: Vec::new(heap),
-                    jobs: Vec::new(heap),
-                })
-            }
-        }
+        let plan = check_plan(plan, ShelfType::Flag, row.len()).unwrap_or_default();
+        let marks = filled(heap, Mark::Empty, plan.all_links())?;
+        let jobs = filled(heap, Job::Idle, plan.parties as usize)?;
+        let mut row = row;
+        row.blank_first(plan.blocks_needed(ShelfType::Flag));
+        Ok(FlagShelf {
+            plan,
+            row,
+            marks,
+            jobs,
+        })
     }
 
     /// Does nothing; promises that whatever is called from now on, no block beyond the need is touched.
     pub fn blocks_beyond_stay(&self)
-        ensures { BeyondStays R.Reading.kind.blank (flag_state self.now) }
+        ensures { BeyondStays (flag_shelf_rules R.Reading.kind.blank) (λ s. s.row) (need Flag self.now.plan) (flag_state self.now) }
     {}
 }

@@ -34,6 +34,10 @@ plan_verdict plan shelf blocks =
     ∷ [])
     plan
 
+-- the plan of a shelf whose plan was refused: without parties and without need
+abbrev pub no_plan : Plan
+no_plan = record { parties = 0; links = 0; channels = 0 }
+
 -- a plan whose sizes are in their ranges
 pub record InRange (p : Plan) : Type 0 where
   pub some_parties : 1 ≤ p.parties

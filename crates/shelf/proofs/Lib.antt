@@ -6,6 +6,5 @@ pub mod Did
 pub mod Moves
 pub mod Runs
 pub mod Patience
-pub mod Blanking
 pub mod Always
 pub mod Granted

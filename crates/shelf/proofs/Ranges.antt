@@ -1,9 +1,13 @@
 -- What an accepted plan check tells.
-use Rattle.std.proofs.Common.{◌≡◌, ℕ, ◌≤◌, leb, List, [], ◌∷◌}
+use Rattle.std.proofs.Common.{◌≡◌, ℕ, ◌≤◌, leb, List, [], ◌∷◌, sym, subst}
 use Rattle.std.proofs.lemmas.Bool.{and_parts, leb-true}
-use Rattle.plan.specs.Refusals.{Test, accepted}
-use Rattle.plan.specs.Plans.{between, need, plan_verdict, InRange, Small}
+use Rattle.std.specs.Prelude.{Ok, Err, Result}
+use Rattle.std.specs.Result.{ResultUnwrapsOrElse}
+use Rattle.plan.specs.Refusals.{Test, accepted, refused, refusal_number, told}
+use Rattle.plan.specs.Plans.{between, need, plan_verdict, no_plan, InRange, Small}
 use Rattle.plan.specs.declared.check.Plan.{Plan}
+use Rattle.plan.specs.declared.refusal.Refusal.{Refusal}
+use Rattle.plan.specs.contracts.check.PlanDefault.TheImpl.{is_default-value}
 use Rattle.plan.specs.declared.check.ShelfType.{ShelfType}
 use Rattle.shelf.proofs.Passing.{accepted_passed}
 
@@ -43,3 +47,13 @@ module _ (pl : Plan) (shelf : ShelfType) (blocks : ℕ) (given : Plan) (e : acce
 
 pub range_small : (pl : Plan) → InRange pl → Small pl
 range_small pl r = record { parties = r.most_parties; links = r.most_links; channels = r.most_channels }
+
+-- the plan of a shelf: the one that was accepted, or none
+pub data Chosen (pl : Plan) (shelf : ShelfType) (blocks : ℕ) : Plan → Type 0 where
+  given : (p : Plan) → accepted p ≡ plan_verdict pl shelf blocks → Chosen pl shelf blocks p
+  none : (n : ℕ) → refused n ≡ plan_verdict pl shelf blocks → Chosen pl shelf blocks no_plan
+
+pub plan_chosen : (pl : Plan) (shelf : ShelfType) (blocks : ℕ) (checked : Result Plan Refusal) (p : Plan) → told checked ≡ plan_verdict pl shelf blocks
+    → ResultUnwrapsOrElse checked is_default-value.it p → Chosen pl shelf blocks p
+plan_chosen pl shelf blocks (Ok q) p e u = subst (Chosen pl shelf blocks) (sym u) (given q e)
+plan_chosen pl shelf blocks (Err r) p e u = let k : p ≡ no_plan = λ i. record { parties = u.0 i; links = u.1.0 i; channels = u.1.1 i } in subst (Chosen pl shelf blocks) (sym k) (none (refusal_number r) e)

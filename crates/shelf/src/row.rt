@@ -22,6 +22,15 @@ fn store<R: Copy>(blocks: &mut [R], at: usize, reading: R)
     blocks[at] = reading;
 }
 
+fn blank_first<R: Reading>(blocks: &mut [R], n: usize)
+    ensures { blocks.new ≡ replicate (min n (length blocks.old)) R.Reading.kind.blank ++ drop (min n (length blocks.old)) blocks.old }
+{
+    let count = n.min(blocks.len());
+    for block in &mut blocks[..count] {
+        *block = R::blank();
+    }
+}
+
 impl<'a, R: Copy> BlockRow<'a, R> {
     /// The row of the lent blocks.
     pub fn new(blocks: &'a mut [R]) -> BlockRow<'a, R>
@@ -68,9 +77,6 @@ impl<'a, R: Reading> BlockRow<'a, R> {
         ensures len { length self.new.blocks.now ≡ length self.old.blocks.now }
         ensures lent { self.new.blocks.ghost_name ≡ self.old.blocks.ghost_name }
     {
-        let count = n.min(self.blocks.len());
-        for b in 0..count {
-            self.write(b, R::blank());
-        }
+        blank_first(self.blocks, n);
     }
 }

@@ -13,19 +13,14 @@ use reading::kind::Reading;
 /// (put) and validate (check), one step a turn.
 ///
 /// The ghost member `rules` has the shelf's exact rules, what they mean, and the laws that hold of that meaning;
-/// `state` is what the shelf's fields stand for. Each call's answer and the state after it are pinned by the rules,
-/// and a refused call leaves the state as it was.
+/// `state` is what the shelf's fields stand for, and the trait's own laws say that the laws of the rules hold of it.
+/// Each call's answer and the state after it are pinned by the rules, and a refused call leaves the state as it was.
 pub trait Shelf {
     type Item: Reading;
 
     ghost rules: { Rules Self.Item };
 
     ghost state: { Self → rules.State };
-
-    /// Does nothing; promises that the laws hold of the shelf's state, and that its blank reading is the kind's.
-    fn attest(&self)
-        ensures sound { rules.sound (state self.now) }
-        ensures blank { rules.blank ≡ Self.Item.Reading.kind.blank };
 
     /// The plan of the shelf.
     fn plan(&self) -> Plan
@@ -67,4 +62,9 @@ pub trait Shelf {
     fn turn(&mut self, party: u8) -> Result<Answer, Refusal>
         ensures answer { told result ≡ turn_answer rules (state self.old) party }
         ensures shelf { state self.new ≡ after rules (state self.old) (Turn party) };
+
+    // the laws of the rules hold of every shelf's state, and a blank reading is the kind's
+    ghost sound: { (shelf : Self) → rules.sound (state shelf) };
+
+    ghost blank: { rules.blank ≡ Self.Item.Reading.kind.blank };
 }

@@ -1,6 +1,6 @@
-use Rattle.std.proofs.Common.{◌≡◌, ℕ, ◌+◌, ◌<◌, ◌≤◌, List, ◌++◌, map, length, get_or, take, drop, set, ap, ◌∙◌, arith}
+use Rattle.std.proofs.Common.{◌≡◌, ℕ, ◌+◌, ◌<◌, List, ◌++◌, map, length, get_or, take, drop, set, ap, ◌∙◌, arith}
 use Rattle.std.proofs.lemmas.List.Edits.{map_over_more}
-use Rattle.std.proofs.lemmas.List.{take_all, drop_all, append-nil, get_or_default}
+use Rattle.std.proofs.lemmas.List.{get_or_default}
 use Rattle.flag_rules.specs.declared.parts.Mark.{Mark}
 use Rattle.flag_rules.specs.declared.parts.Mark.TheVariants.{Empty}
 use Rattle.flag_rules.specs.Flags.{break_mark}
@@ -13,15 +13,7 @@ more : (c : ℕ) (old marks : List Mark) (i : ℕ) (m : Mark) → i < length old
 more c old marks i m h l e q =
     ap (set marks i) q ∙ map_over_more (break_mark c) old marks i (get_or marks i Empty) h e (get_or_default marks i Empty (get_or marks i Empty) (omega arith))
 
-all : (c : ℕ) (old marks : List Mark) (i : ℕ) → length old ≤ i → marks ≡ map (break_mark c) (take i old) ++ drop i old → marks ≡ map (break_mark c) old
-all c old marks i h e =
-    e ∙ (ap (λ (xs : List Mark). map (break_mark c) (take i old) ++ xs) (drop_all i old h)
-    ∙ (append-nil (map (break_mark c) (take i old)) ∙ ap (map (break_mark c)) (take_all i old h)))
-
 pub loop-mark-preserved : goal.loop-mark-preserved
 loop-mark-preserved c =
-    more c.args.channel c.args.marks.now c.loop-mark.marks c.loop-mark.mark-index c.broken.result c.loop-mark-test.true
-    c.loop-mark.auto.marks c.loop-mark.invariant c.broken.ensures
-
-pub returns : goal.returns
-returns c = all c.args.channel c.args.marks.now c.loop-mark.marks c.loop-mark.mark-index (omega arith) c.loop-mark.invariant
+    more c.args.channel c.args.marks.now c.loop-mark.mark-items c.loop-mark.mark-index c.broken.result c.loop-mark-test.true
+    c.loop-mark.auto.mark-items c.loop-mark.invariant c.broken.ensures

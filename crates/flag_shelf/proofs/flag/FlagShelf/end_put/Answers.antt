@@ -1,49 +1,25 @@
-use Rattle.std.proofs.Common.{map, vec_items, ap, ◌∙◌, arith}
+use Rattle.std.proofs.Common.{◌≡◌, ◌<◌, map, vec_items, refl, ap, ◌∙◌, arith}
 use Rattle.std.proofs.lemmas.List.{with_items_is}
 use Rattle.flag_rules.specs.declared.parts.Job.TheVariants.{Putting}
 use Rattle.flag_rules.specs.Flags.{break_mark, put_by, put_answer}
 use Rattle.flag_shelf.specs.States.{flag_state}
-use Rattle.flag_shelf.proofs.Fit.{job_there, turn_kept, stored_is}
+use Rattle.flag_shelf.proofs.Fit.{party_there, job_there, turn_kept, missed_is, stored_is}
 use Rattle.flag_shelf.proofs.flag.FlagShelf.end_put.Goals as goal
 
 pub index_mut-requires : goal.index_mut-requires
 index_mut-requires g c =
     let d = g.R.Reading.kind.blank in
     let v = c.args.self.now in
-    omega (arith, job_there d v.plan _ (vec_items v.marks) (vec_items v.jobs) v.sound c.args.party c.requires.party, v.jobs.ok.0)
-
-pub index_mut-requires-in-Empty : goal.index_mut-requires-in-Empty
-index_mut-requires-in-Empty g c =
-    let d = g.R.Reading.kind.blank in
-    let v = c.args.self.now in
-    omega (arith, job_there d v.plan _ (vec_items v.marks) (vec_items v.jobs) v.sound c.args.party c.requires.party, v.jobs.ok.0)
-
-pub index_mut-requires-in-Broken : goal.index_mut-requires-in-Broken
-index_mut-requires-in-Broken g c =
-    let d = g.R.Reading.kind.blank in
-    let v = c.args.self.now in
-    omega (arith, job_there d v.plan _ (vec_items v.marks) (vec_items v.jobs) v.sound c.args.party c.requires.party, v.jobs.ok.0)
+    omega (arith, job_there d v.plan _ (vec_items v.marks) (vec_items v.jobs) v.sound c.args.party (party_there d v.plan _ (vec_items v.marks) (vec_items v.jobs) v.sound c.args.party (Putting c.args.at c.args.reading) c.requires refl), v.jobs.ok.0)
 
 pub invariant_of-self : goal.invariant_of-self
 invariant_of-self g c =
     let d = g.R.Reading.kind.blank in
     let v = c.args.self.now in
-    record { sound = turn_kept d v.plan _ (vec_items v.marks) (vec_items v.jobs) v.sound c.args.party c.requires.party (Putting c.args.at c.args.reading) c.requires.job _ (stored_is d v.plan v.row.blocks.now (vec_items v.marks) (vec_items v.jobs) c.args.party c.args.at c.in-Live.channel c.args.reading c.write.new.self.blocks.now _ c.write.ensures.blocks (with_items_is v.marks c.break_marks.new.marks (omega (arith, c.break_marks.auto.marks, c.deref_mut.ensures.len)) ∙ (c.break_marks.ensures ∙ ap (map (break_mark c.in-Live.channel)) c.deref_mut.ensures.value)) c.in-Live.ensures) }
+    record { sound = turn_kept d v.plan _ (vec_items v.marks) (vec_items v.jobs) v.sound c.args.party (party_there d v.plan _ (vec_items v.marks) (vec_items v.jobs) v.sound c.args.party (Putting c.args.at c.args.reading) c.requires refl) (Putting c.args.at c.args.reading) c.requires _ (missed_is d v.plan v.row.blocks.now (vec_items v.marks) (vec_items v.jobs) c.args.party c.args.at c.args.reading c.mark-mark.result c.in_default.not-Live c.mark-mark.ensures) }
 
-pub invariant_of-self-in-Empty : goal.invariant_of-self-in-Empty
-invariant_of-self-in-Empty g c =
+pub invariant_of-self-2 : goal.invariant_of-self-2
+invariant_of-self-2 g c =
     let d = g.R.Reading.kind.blank in
     let v = c.args.self.now in
-    record { sound = turn_kept d v.plan _ (vec_items v.marks) (vec_items v.jobs) v.sound c.args.party c.requires.party (Putting c.args.at c.args.reading) c.requires.job _ (ap (put_by (flag_state v) c.args.party c.args.reading) c.in-Empty.ensures) }
-
-pub invariant_of-self-in-Broken : goal.invariant_of-self-in-Broken
-invariant_of-self-in-Broken g c =
-    let d = g.R.Reading.kind.blank in
-    let v = c.args.self.now in
-    record { sound = turn_kept d v.plan _ (vec_items v.marks) (vec_items v.jobs) v.sound c.args.party c.requires.party (Putting c.args.at c.args.reading) c.requires.job _ (ap (put_by (flag_state v) c.args.party c.args.reading) c.in-Broken.ensures) }
-
-pub returns-in-Live : goal.returns-in-Live
-returns-in-Live g c =
-    let d = g.R.Reading.kind.blank in
-    let v = c.args.self.now in
-    record { answer = ap put_answer c.in-Live.ensures; shelf = stored_is d v.plan v.row.blocks.now (vec_items v.marks) (vec_items v.jobs) c.args.party c.args.at c.in-Live.channel c.args.reading c.write.new.self.blocks.now _ c.write.ensures.blocks (with_items_is v.marks c.break_marks.new.marks (omega (arith, c.break_marks.auto.marks, c.deref_mut.ensures.len)) ∙ (c.break_marks.ensures ∙ ap (map (break_mark c.in-Live.channel)) c.deref_mut.ensures.value)) c.in-Live.ensures }
+    record { sound = turn_kept d v.plan _ (vec_items v.marks) (vec_items v.jobs) v.sound c.args.party (party_there d v.plan _ (vec_items v.marks) (vec_items v.jobs) v.sound c.args.party (Putting c.args.at c.args.reading) c.requires refl) (Putting c.args.at c.args.reading) c.requires _ (stored_is d v.plan v.row.blocks.now (vec_items v.marks) (vec_items v.jobs) c.args.party c.args.at c.in-Live.channel c.args.reading c.write.new.self.blocks.now _ c.write.ensures.blocks (with_items_is v.marks c.break_marks.new.marks (omega (arith, c.break_marks.auto.marks, c.deref_mut.ensures.len)) ∙ (c.break_marks.ensures ∙ ap (map (break_mark c.in-Live.channel)) c.deref_mut.ensures.value)) c.in-Live.ensures) }

@@ -1,67 +1,32 @@
-use Rattle.std.proofs.Common.{ℕ, ◌++◌, drop, replicate, vec_items, refl, ap, ◌∙◌, arith}
-use Rattle.std.proofs.lemmas.Result.{err_from_is_err_and}
-use Rattle.plan.specs.Refusals.{refusal_number}
+use Rattle.std.proofs.Common.{◌≡◌, ℕ, min, ◌++◌, length, drop, replicate, vec_items, refl, sym, ap, ◌∙◌, subst}
+use Rattle.plan.specs.Plans.{width, need}
+use Rattle.plan.specs.declared.check.Plan.{Plan}
+use Rattle.plan.specs.declared.check.ShelfType.TheVariants.{Flag}
+use Rattle.shelf.proofs.Ranges.{Chosen, plan_chosen}
 use Rattle.flag_rules.specs.declared.parts.Mark.TheVariants.{Empty}
-use Rattle.flag_shelf.proofs.Built.{enough, made_state, made_sound, none_state, none_sound, fresh_made, not_refused}
+use Rattle.flag_rules.specs.Flags.{state_of, made}
+use Rattle.flag_shelf.proofs.Built.{built_is, built_sound, built_fresh}
+use Rattle.flag_shelf.proofs.flag.FlagShelf.make.Given.{Over}
 use Rattle.flag_shelf.proofs.flag.FlagShelf.make.Goals as goal
 
-pub blank_blocks-requires : goal.blank_blocks-requires
-blank_blocks-requires g c =
-    let d = g.R.Reading.kind.blank in
-    let pl = c.args.plan in
-    let row = c.args.row.blocks.now in
-    omega (arith, enough d pl row c.len.result c.len.ensures c.in-Ok.plan c.in-Ok.ensures, c.blocks_needed.ensures)
+module _ (g : Over) (c : goal.After-blank_first g) where
+  chosen : Chosen c.args.plan Flag (length c.args.row.blocks.now) c.unwrap_or_default-plan.result
+  chosen =
+      subst (λ (n : ℕ). Chosen c.args.plan Flag n c.unwrap_or_default-plan.result) c.len.ensures
+      (plan_chosen c.args.plan Flag c.len.result c.check_plan.result c.unwrap_or_default-plan.result c.check_plan.ensures c.unwrap_or_default-plan.ensures)
+
+  built : state_of c.unwrap_or_default-plan.result c.blank_first.new.self.blocks.now (vec_items c.in_ok-marks.marks) (vec_items c.in_ok-jobs.jobs) ≡ made g.R.Reading.kind.blank c.args.plan c.args.row.blocks.now
+  built =
+      let row = c.args.row.blocks.now in
+      built_is g.R.Reading.kind.blank c.args.plan row c.unwrap_or_default-plan.result chosen c.blank_first.new.self.blocks.now (vec_items c.in_ok-marks.marks) (vec_items c.in_ok-jobs.jobs)
+      (c.blank_first.ensures.blocks ∙ ap (λ (n : ℕ). replicate (min n (length row)) g.R.Reading.kind.blank ++ drop (min n (length row)) row) c.blocks_needed.ensures)
+      (c.in_ok-marks.ensures.list ∙ ap (λ (n : ℕ). replicate n Empty) c.all_links.ensures) c.in_ok-jobs.ensures.list
 
 pub invariant_of-result : goal.invariant_of-result
-invariant_of-result g c =
-    let d = g.R.Reading.kind.blank in
-    let pl = c.args.plan in
-    let row = c.args.row.blocks.now in
-    record { sound = made_sound d pl row c.len.result c.len.ensures c.in-Ok.plan c.in-Ok.ensures _ (made_state d pl row c.len.result c.len.ensures c.in-Ok.plan c.in-Ok.ensures c.blank_blocks.new.row.blocks.now (vec_items c.in_ok-marks-in-Ok.marks) (vec_items c.in_ok-jobs-in-Ok.jobs) (c.blank_blocks.ensures.blocks ∙ ap (λ (n : ℕ). replicate n d ++ drop n row) c.blocks_needed.ensures) (c.in_ok-marks-in-Ok.ensures ∙ ap (λ (n : ℕ). replicate n Empty) c.all_links.ensures) c.in_ok-jobs-in-Ok.ensures) }
+invariant_of-result g c = record { sound = built_sound g.R.Reading.kind.blank c.args.plan c.args.row.blocks.now c.unwrap_or_default-plan.result (chosen g c) _ (built g c) }
 
-pub invariant_of-result-in-Err : goal.invariant_of-result-in-Err
-invariant_of-result-in-Err g c =
-    let d = g.R.Reading.kind.blank in
-    let pl = c.args.plan in
-    let row = c.args.row.blocks.now in
-    record { sound = none_sound d pl row c.len.result c.len.ensures (vec_items c.new.result) (vec_items c.new-in-Err.result) c.new.ensures.items c.new-in-Err.ensures.items }
+pub returns-clause-state : goal.returns-clause-state
+returns-clause-state g c = built g c.before
 
-pub returns-in_err-marks-in-Ok : goal.returns-in_err-marks-in-Ok
-returns-in_err-marks-in-Ok g c =
-    let d = g.R.Reading.kind.blank in
-    let p = err_from_is_err_and c.from_residual.result c.from_residual.ensures.1 in
-    rw p.1
-    (record {
-      state = tt;
-      fresh = tt;
-      lent = tt;
-      succeeds = λ n e. absurd (not_refused d c.args.plan c.args.row.blocks.now c.len.result c.len.ensures c.in-Ok.plan c.in-Ok.ensures n e);
-    })
-
-pub returns-in_err-jobs-in-Ok : goal.returns-in_err-jobs-in-Ok
-returns-in_err-jobs-in-Ok g c =
-    let d = g.R.Reading.kind.blank in
-    let p = err_from_is_err_and c.from_residual-in_err-jobs-in-Ok.result c.from_residual-in_err-jobs-in-Ok.ensures.1 in
-    rw p.1
-    (record {
-      state = tt;
-      fresh = tt;
-      lent = tt;
-      succeeds = λ n e. absurd (not_refused d c.args.plan c.args.row.blocks.now c.len.result c.len.ensures c.in-Ok.plan c.in-Ok.ensures n e);
-    })
-
-pub returns-in_ok-jobs-in-Ok : goal.returns-in_ok-jobs-in-Ok
-returns-in_ok-jobs-in-Ok g c =
-    let d = g.R.Reading.kind.blank in
-    let pl = c.args.plan in
-    let row = c.args.row.blocks.now in
-    let made-is = made_state d pl row c.len.result c.len.ensures c.in-Ok.plan c.in-Ok.ensures c.blank_blocks.new.row.blocks.now (vec_items c.in_ok-marks-in-Ok.marks) (vec_items c.in_ok-jobs-in-Ok.jobs) (c.blank_blocks.ensures.blocks ∙ ap (λ (n : ℕ). replicate n d ++ drop n row) c.blocks_needed.ensures) (c.in_ok-marks-in-Ok.ensures ∙ ap (λ (n : ℕ). replicate n Empty) c.all_links.ensures) c.in_ok-jobs-in-Ok.ensures in
-    record { state = made-is; fresh = fresh_made d pl row _ made-is; lent = c.blank_blocks.ensures.lent; succeeds = λ n e. refl }
-
-pub returns-in-Err : goal.returns-in-Err
-returns-in-Err g c =
-    let d = g.R.Reading.kind.blank in
-    let pl = c.args.plan in
-    let row = c.args.row.blocks.now in
-    let made-is = none_state d pl row c.len.result c.len.ensures (refusal_number c.in-Err.field-0) c.in-Err.ensures (vec_items c.new.result) (vec_items c.new-in-Err.result) c.new.ensures.items c.new-in-Err.ensures.items in
-    record { state = made-is; fresh = fresh_made d pl row _ made-is; lent = refl; succeeds = λ n e. refl }
+pub returns-clause-fresh : goal.returns-clause-fresh
+returns-clause-fresh g c = built_fresh g.R.Reading.kind.blank c.args.plan c.args.row.blocks.now _ (built g c.before)

@@ -8,11 +8,11 @@ index_mut-requires g c =
     let d = g.R.Reading.kind.blank in
     let v = c.args.self.now in
     let s = flag_state v in
-    omega (arith, mark_there d v.plan _ (vec_items v.marks) (vec_items v.jobs) v.sound c.args.party c.in_ok-which.which (party_in d v.plan _ (vec_items v.marks) (vec_items v.jobs) v.sound c.args.party c.args.link c.in_ok-which.which [] c.in_ok-which.ensures.answer) (link_own d v.plan _ (vec_items v.marks) (vec_items v.jobs) v.sound c.args.party c.args.link c.in_ok-which.which [] c.in_ok-which.ensures.answer), v.marks.ok.0)
+    omega (arith, mark_there d v.plan _ (vec_items v.marks) (vec_items v.jobs) v.sound c.args.party c.in_ok-which.which (party_in d v.plan _ (vec_items v.marks) (vec_items v.jobs) v.sound c.args.party c.args.link c.in_ok-which.which [] c.in_ok-which.ensures) (link_own d v.plan _ (vec_items v.marks) (vec_items v.jobs) v.sound c.args.party c.args.link c.in_ok-which.which [] c.in_ok-which.ensures), v.marks.ok.0)
 
 pub invariant_of-self : goal.invariant_of-self
 invariant_of-self g c =
     let d = g.R.Reading.kind.blank in
     let v = c.args.self.now in
     let s = flag_state v in
-    record { sound = drop_kept d v.plan _ (vec_items v.marks) (vec_items v.jobs) v.sound c.args.party c.args.link c.in_ok-which.which [] c.in_ok-which.ensures.answer }
+    record { sound = drop_kept d v.plan _ (vec_items v.marks) (vec_items v.jobs) v.sound c.args.party c.args.link c.in_ok-which.which [] c.in_ok-which.ensures }

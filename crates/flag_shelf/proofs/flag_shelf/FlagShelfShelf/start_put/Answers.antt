@@ -18,7 +18,7 @@ returns-in_err-at g c =
     let v = c.args.self.now in
     let s = flag_state v in
     let p = err_from_is_err_and c.from_residual.result c.from_residual.ensures.1 in
-    let e = c.in_err-at.ensures.answer in
+    let e = c.in_err-at.ensures in
     record {
       answer = ap told p.1 ∙ (ap (λ (y : Refusal). refused (refusal_number y)) p.2 ∙ refused_more (known v.plan (means d s) c.args.party ∷ free v.plan (means d s) c.args.party ∷ has_link v.plan (means d s) c.args.link ∷ full v.plan (means d s) c.args.party c.args.link ∷ []) [] (flat v.plan c.args.party c.args.link) tt _ e);
       shelf = ap (leaves s) (refused_more (known v.plan (means d s) c.args.party ∷ free v.plan (means d s) c.args.party ∷ has_link v.plan (means d s) c.args.link ∷ full v.plan (means d s) c.args.party c.args.link ∷ []) [] (flat v.plan c.args.party c.args.link) (state_after (flag_shelf_rules d) s (Put c.args.party c.args.link c.args.reading)) _ e);
@@ -29,11 +29,11 @@ index_mut-requires g c =
     let d = g.R.Reading.kind.blank in
     let v = c.args.self.now in
     let s = flag_state v in
-    omega (arith, job_there d v.plan _ (vec_items v.marks) (vec_items v.jobs) v.sound c.args.party (party_in d v.plan _ (vec_items v.marks) (vec_items v.jobs) v.sound c.args.party c.args.link c.in_ok-at.at (full v.plan (means d s) c.args.party c.args.link ∷ []) c.in_ok-at.ensures.answer), v.jobs.ok.0)
+    omega (arith, job_there d v.plan _ (vec_items v.marks) (vec_items v.jobs) v.sound c.args.party (party_in d v.plan _ (vec_items v.marks) (vec_items v.jobs) v.sound c.args.party c.args.link c.in_ok-at.at (full v.plan (means d s) c.args.party c.args.link ∷ []) c.in_ok-at.ensures), v.jobs.ok.0)
 
 pub invariant_of-self : goal.invariant_of-self
 invariant_of-self g c =
     let d = g.R.Reading.kind.blank in
     let v = c.args.self.now in
     let s = flag_state v in
-    record { sound = held_kept d v.plan _ (vec_items v.marks) (vec_items v.jobs) v.sound c.args.party c.args.link c.in_ok-at.at c.in_ok-at.ensures.answer (Putting c.in_ok-at.at c.args.reading) (λ f. f) }
+    record { sound = held_kept d v.plan _ (vec_items v.marks) (vec_items v.jobs) v.sound c.args.party c.args.link c.in_ok-at.at c.in_ok-at.ensures (Putting c.in_ok-at.at c.args.reading) (λ f. f) }

@@ -17,7 +17,7 @@ returns-in_err-at g c =
     let v = c.args.self.now in
     let s = flag_state v in
     let p = err_from_is_err_and c.from_residual.result c.from_residual.ensures.1 in
-    let e = c.in_err-at.ensures.answer in
+    let e = c.in_err-at.ensures in
     record {
       answer = ap told p.1 ∙ (ap (λ (y : Refusal). refused (refusal_number y)) p.2 ∙ refused_more (known v.plan (means d s) c.args.party ∷ free v.plan (means d s) c.args.party ∷ has_link v.plan (means d s) c.args.link ∷ []) (has_channel v.plan (means d s) c.args.channel ∷ []) (flat v.plan c.args.party c.args.link) tt _ e);
       shelf = ap (leaves s) (refused_more (known v.plan (means d s) c.args.party ∷ free v.plan (means d s) c.args.party ∷ has_link v.plan (means d s) c.args.link ∷ []) (has_channel v.plan (means d s) c.args.channel ∷ []) (flat v.plan c.args.party c.args.link) (state_after (flag_shelf_rules d) s (Take c.args.party c.args.link c.args.channel)) _ e);
@@ -28,18 +28,18 @@ index_mut-requires g c =
     let d = g.R.Reading.kind.blank in
     let v = c.args.self.now in
     let s = flag_state v in
-    omega (arith, mark_there d v.plan _ (vec_items v.marks) (vec_items v.jobs) v.sound c.args.party c.in_ok-at.at (party_in d v.plan _ (vec_items v.marks) (vec_items v.jobs) v.sound c.args.party c.args.link c.in_ok-at.at [] c.in_ok-at.ensures.answer) (link_own d v.plan _ (vec_items v.marks) (vec_items v.jobs) v.sound c.args.party c.args.link c.in_ok-at.at [] c.in_ok-at.ensures.answer), v.marks.ok.0)
+    omega (arith, mark_there d v.plan _ (vec_items v.marks) (vec_items v.jobs) v.sound c.args.party c.in_ok-at.at (party_in d v.plan _ (vec_items v.marks) (vec_items v.jobs) v.sound c.args.party c.args.link c.in_ok-at.at [] c.in_ok-at.ensures) (link_own d v.plan _ (vec_items v.marks) (vec_items v.jobs) v.sound c.args.party c.args.link c.in_ok-at.at [] c.in_ok-at.ensures), v.marks.ok.0)
 
 pub index_mut-requires-2 : goal.index_mut-requires-2
 index_mut-requires-2 g c =
     let d = g.R.Reading.kind.blank in
     let v = c.args.self.now in
     let s = flag_state v in
-    omega (arith, job_there d v.plan _ (vec_items v.marks) (vec_items v.jobs) v.sound c.args.party (party_in d v.plan _ (vec_items v.marks) (vec_items v.jobs) v.sound c.args.party c.args.link c.in_ok-at.at [] c.in_ok-at.ensures.answer), v.jobs.ok.0)
+    omega (arith, job_there d v.plan _ (vec_items v.marks) (vec_items v.jobs) v.sound c.args.party (party_in d v.plan _ (vec_items v.marks) (vec_items v.jobs) v.sound c.args.party c.args.link c.in_ok-at.at [] c.in_ok-at.ensures), v.jobs.ok.0)
 
 pub invariant_of-self : goal.invariant_of-self
 invariant_of-self g c =
     let d = g.R.Reading.kind.blank in
     let v = c.args.self.now in
     let s = flag_state v in
-    record { sound = take_kept d v.plan _ (vec_items v.marks) (vec_items v.jobs) v.sound c.args.party c.args.link c.in_ok-at.at [] c.in_ok-at.ensures.answer c.args.channel c.if-channel-self.false }
+    record { sound = take_kept d v.plan _ (vec_items v.marks) (vec_items v.jobs) v.sound c.args.party c.args.link c.in_ok-at.at [] c.in_ok-at.ensures c.args.channel c.if-channel-self.false }
