@@ -1,85 +1,65 @@
 use crate::script::{Command, Reply, decode};
 use block_shelf::block::BlockShelf;
-use flag_shelf::flag::FlagShelf;
 use plan::refusal::Refusal;
 use reading::kind::Reading;
 use reading::tally::Tally;
 use shelf::shelf::Shelf;
 use std::io;
 
-fn granted(res: Result<(), Refusal>) -> Reply {
-    match res {
-        Ok(()) => Reply::Granted,
-        Err(refusal) => Reply::Refused(refusal.number()),
-    }
-}
-
-fn shows<R: Reading>(res: Result<R, Refusal>) -> Reply {
-    match res {
-        Ok(reading) => Reply::Shows(reading.shown()),
-        Err(refusal) => Reply::Refused(refusal.number()),
-    }
-}
-
-// What a shelf answers; the place question is not one of every shelf's.
-fn answer_of<S: Shelf>(shelf: &mut S, command: Command) -> Reply {
+/// What a shelf answers; the place question is not one of every shelf's.
+pub fn answer_of<S: Shelf>(shelf: &mut S, command: Command) -> Result<Reply, Refusal> {
     match command {
         Command::Take {
             party,
             link,
             channel,
-        } => granted(shelf.start_take(party, link, channel)),
+        } => shelf.start_take(party, link, channel)?,
         Command::Put {
             party,
             link,
             reading,
-        } => { granted(shelf.start_put(party, link, S::Item::blank().amended(reading as u64))) }
-        Command::Check { party, link } => granted(shelf.start_check(party, link)),
-        Command::Drop { party, link } => granted(shelf.drop_link(party, link)),
-        Command::Look { party, link } => shows(shelf.look(party, link)),
-        Command::Turn { party } => match shelf.turn(party) {
-            Ok(answer) => Reply::Turned(answer),
-            Err(refusal) => Reply::Refused(refusal.number()),
-        },
-        Command::Place { .. } => Reply::NoQuestion,
-        Command::Idle { party } => Reply::Idle(shelf.is_idle(party)),
+        } => shelf.start_put(party, link, S::Item::blank().amended(reading as u64))?,
+        Command::Check { party, link } => shelf.start_check(party, link)?,
+        Command::Drop { party, link } => shelf.drop_link(party, link)?,
+        Command::Look { party, link } => return Ok(Reply::Shows(shelf.look(party, link)?.shown())),
+        Command::Turn { party } => return Ok(Reply::Turned(shelf.turn(party)?)),
+        Command::Place { .. } => return Ok(Reply::NoQuestion),
+        Command::Idle { party } => return Ok(Reply::Idle(shelf.is_idle(party))),
     }
+    Ok(Reply::Granted)
 }
 
-fn reply_with_places(shelf: &mut BlockShelf<Tally>, command: Command) -> Reply {
+/// What a block shelf answers.
+pub fn answer_with_places(
+    shelf: &mut BlockShelf<Tally>,
+    command: Command,
+) -> Result<Reply, Refusal> {
     match command {
-        Command::Place { block } => match shelf.place(block) {
-            Ok(place) => Reply::At(place),
-            Err(refusal) => Reply::Refused(refusal.number()),
-        },
+        Command::Place { block } => Ok(Reply::At(shelf.place(block)?)),
         other => answer_of(shelf, other),
     }
 }
 
-/// Carries out calls on a flag shelf.
-pub fn drive_flag(rt: &HostRuntime, shelf: &mut FlagShelf<Tally>, calls: &[u8]) -> io::Result<()> {
-    for bytes in calls.chunks(4) {
-        let Some(next) = decode(bytes) else {
-            return Ok(());
-        };
-        let answer = answer_of(shelf, next);
-        println!(rt; "{answer}")?;
-    }
-    Ok(())
-}
-
-/// Carries out calls on a block shelf.
-pub fn drive_block(
+/// Carries out calls on a shelf and prints what each answers.
+pub fn drive<S: Shelf, F: Fn(&mut S, Command) -> Result<Reply, Refusal>>(
     rt: &HostRuntime,
-    shelf: &mut BlockShelf<Tally>,
+    shelf: &mut S,
     calls: &[u8],
-) -> io::Result<()> {
+    answer: F,
+) -> io::Result<()>
+    requires { F.IsAlwaysCallable answer }
+{
     for bytes in calls.chunks(4) {
-        let Some(next) = decode(bytes) else {
+        let Some(command) = decode(bytes) else {
             return Ok(());
         };
-        let answer = reply_with_places(shelf, next);
-        println!(rt; "{answer}")?;
+        match answer(shelf, command) {
+            Ok(reply) => println!(rt; "{reply}")?,
+            Err(refusal) => {
+                let number = refusal.number();
+                println!(rt; "no {number}")?;
+            }
+        }
     }
     Ok(())
 }

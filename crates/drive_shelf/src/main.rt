@@ -6,9 +6,9 @@ mod drive;
 mod script;
 
 use block_shelf::block::BlockShelf;
-use drive::{drive_block, drive_flag};
+use drive::{answer_of, answer_with_places, drive};
 use flag_shelf::flag::FlagShelf;
-use plan::check::Plan;
+use plan::check::{Plan, ShelfType};
 use reading::tally::Tally;
 use script::MOST_BYTES;
 use shelf::making::filled;
@@ -34,9 +34,17 @@ fn print_blocks(rt: &HostRuntime, blocks: &[Tally]) -> io::Result<()> {
     println!(rt; "")
 }
 
+// The shelf that a script's first byte names.
+fn shelf_type(code: u8) -> ShelfType {
+    match code {
+        0 => ShelfType::Flag,
+        _ => ShelfType::Block,
+    }
+}
+
 fn run(rt: &HostRuntime) -> anyhow::Result<()> {
     let bytes = read_input(rt)?;
-    let [shelf_type, parties, links, channels, high, low, calls @ ..] = bytes.as_slice() else {
+    let [code, parties, links, channels, high, low, calls @ ..] = bytes.as_slice() else {
         return Ok(());
     };
     let plan = Plan {
@@ -44,13 +52,18 @@ fn run(rt: &HostRuntime) -> anyhow::Result<()> {
         links: *links,
         channels: *channels,
     };
-    let mut blocks = filled(rt.alloc(), BEFORE, *high as usize * 256 + *low as usize)?;
-    if *shelf_type == 0 {
-        let mut shelf = FlagShelf::make(rt.alloc(), plan, BlockRow::new(&mut blocks))?;
-        drive_flag(rt, &mut shelf, calls)?;
-    } else {
-        let mut shelf = BlockShelf::make(rt.alloc(), plan, BlockRow::new(&mut blocks))?;
-        drive_block(rt, &mut shelf, calls)?;
+    let count = u16::from_be_bytes([*high, *low]);
+    let mut blocks = filled(rt.alloc(), BEFORE, count as usize)?;
+    let row = BlockRow::new(&mut blocks);
+    match shelf_type(*code) {
+        ShelfType::Flag => {
+            let mut shelf = FlagShelf::make(rt.alloc(), plan, row)?;
+            drive(rt, &mut shelf, calls, |shelf, command| answer_of(shelf, command))?;
+        }
+        ShelfType::Block => {
+            let mut shelf = BlockShelf::make(rt.alloc(), plan, row)?;
+            drive(rt, &mut shelf, calls, |shelf, command| answer_with_places(shelf, command))?;
+        }
     }
     print_blocks(rt, &blocks)?;
     Ok(())

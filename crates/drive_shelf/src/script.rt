@@ -40,18 +40,17 @@ pub fn decode(bytes: &[u8]) -> Option<Command> {
         4 => Some(Command::Look { party, link }),
         5 => Some(Command::Turn { party }),
         6 => Some(Command::Place {
-            block: party as usize * 256 + link as usize,
+            block: u16::from_be_bytes([party, link]) as usize,
         }),
         7 => Some(Command::Idle { party }),
         _ => None,
     }
 }
 
-/// What a call answers.
+/// What a call answers that is not refused.
 #[derive(Clone, Copy)]
 pub enum Reply {
     Granted,
-    Refused(u8),
     Shows(u64),
     Turned(Answer),
     Idle(bool),
@@ -59,24 +58,12 @@ pub enum Reply {
     NoQuestion,
 }
 
-fn answer_word(answer: Answer) -> &'static str {
-    match answer {
-        Answer::Run => "run",
-        Answer::Taken => "taken",
-        Answer::Stored => "stored",
-        Answer::Missed => "missed",
-        Answer::Live => "live",
-        Answer::Broken => "broken",
-    }
-}
-
 impl fmt::Display for Reply {
     fn fmt<W: fmt::Write>(&self, f: &mut fmt::Formatter<W>) -> fmt::Result {
         match *self {
             Reply::Granted => write!(f, "ok"),
-            Reply::Refused(number) => write!(f, "no {number}"),
             Reply::Shows(word) => write!(f, "{word}"),
-            Reply::Turned(answer) => write!(f, "{}", answer_word(answer)),
+            Reply::Turned(answer) => write!(f, "{answer}"),
             Reply::Idle(true) => write!(f, "yes"),
             Reply::Idle(false) => write!(f, "no"),
             Reply::At(Place::Current(channel)) => write!(f, "current {channel}"),

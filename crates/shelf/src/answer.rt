@@ -1,3 +1,5 @@
+use std::fmt;
+
 /// What a turn of a shelf answers: "run", or the answer of the operation that it ends.
 #[derive(Clone, Copy, PartialEq, Eq, Debug)]
 pub enum Answer {
@@ -13,4 +15,17 @@ pub enum Answer {
     Live,
     /// A check ended that found its link broken.
     Broken,
+}
+
+impl fmt::Display for Answer {
+    fn fmt<W: fmt::Write>(&self, f: &mut fmt::Formatter<W>) -> fmt::Result {
+        f.write_str(match self {
+            Answer::Run => "run",
+            Answer::Taken => "taken",
+            Answer::Stored => "stored",
+            Answer::Missed => "missed",
+            Answer::Live => "live",
+            Answer::Broken => "broken",
+        })
+    }
 }
