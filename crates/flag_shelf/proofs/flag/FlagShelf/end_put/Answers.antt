@@ -10,16 +10,16 @@ pub index_mut-requires : goal.index_mut-requires
 index_mut-requires g c =
     let d = g.R.Reading.kind.blank in
     let v = c.args.self.now in
-    omega (arith, job_there d v.plan _ (vec_items v.marks) (vec_items v.jobs) v.sound c.args.party (party_there d v.plan _ (vec_items v.marks) (vec_items v.jobs) v.sound c.args.party (Putting c.args.at c.args.reading) c.requires refl), v.jobs.ok.0)
+    omega (arith, job_there d v c.args.party (party_there d v c.args.party (Putting c.args.at c.args.reading) c.requires refl), v.jobs.ok.0)
 
 pub invariant_of-self : goal.invariant_of-self
 invariant_of-self g c =
     let d = g.R.Reading.kind.blank in
     let v = c.args.self.now in
-    record { sound = turn_kept d v.plan _ (vec_items v.marks) (vec_items v.jobs) v.sound c.args.party (party_there d v.plan _ (vec_items v.marks) (vec_items v.jobs) v.sound c.args.party (Putting c.args.at c.args.reading) c.requires refl) (Putting c.args.at c.args.reading) c.requires _ (missed_is d v.plan v.row.blocks.now (vec_items v.marks) (vec_items v.jobs) c.args.party c.args.at c.args.reading c.mark-mark.result c.in_default.not-Live c.mark-mark.ensures) }
+    record { sound = turn_kept d v c.args.party (party_there d v c.args.party (Putting c.args.at c.args.reading) c.requires refl) (Putting c.args.at c.args.reading) c.requires _ (missed_is d v c.args.party c.args.at c.args.reading c.mark-mark.result c.in_default.not-Live c.mark-mark.ensures) }
 
 pub invariant_of-self-2 : goal.invariant_of-self-2
 invariant_of-self-2 g c =
     let d = g.R.Reading.kind.blank in
     let v = c.args.self.now in
-    record { sound = turn_kept d v.plan _ (vec_items v.marks) (vec_items v.jobs) v.sound c.args.party (party_there d v.plan _ (vec_items v.marks) (vec_items v.jobs) v.sound c.args.party (Putting c.args.at c.args.reading) c.requires refl) (Putting c.args.at c.args.reading) c.requires _ (stored_is d v.plan v.row.blocks.now (vec_items v.marks) (vec_items v.jobs) c.args.party c.args.at c.in-Live.channel c.args.reading c.write.new.self.blocks.now _ c.write.ensures.blocks (with_items_is v.marks c.break_marks.new.marks (omega (arith, c.break_marks.auto.marks, c.deref_mut.ensures.len)) ∙ (c.break_marks.ensures ∙ ap (map (break_mark c.in-Live.channel)) c.deref_mut.ensures.value)) c.in-Live.ensures) }
+    record { sound = turn_kept d v c.args.party (party_there d v c.args.party (Putting c.args.at c.args.reading) c.requires refl) (Putting c.args.at c.args.reading) c.requires _ (stored_is d v c.args.party c.args.at c.in-Live.channel c.args.reading c.write.new.self.blocks.now _ c.write.ensures.blocks (with_items_is v.marks c.break_marks.new.marks (omega (arith, c.break_marks.auto.marks, c.deref_mut.ensures.len)) ∙ (c.break_marks.ensures ∙ ap (map (break_mark c.in-Live.channel)) c.deref_mut.ensures.value)) c.in-Live.ensures) }

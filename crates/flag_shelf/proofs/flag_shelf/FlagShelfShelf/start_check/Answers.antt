@@ -9,7 +9,7 @@ use Rattle.flag_rules.specs.declared.parts.Job.TheVariants.{Checking}
 use Rattle.flag_rules.specs.Means.{means}
 use Rattle.flag_rules.proofs.AsShelf.{flag_shelf_rules}
 use Rattle.flag_shelf.specs.States.{flag_state}
-use Rattle.flag_shelf.proofs.Fit.{job_there, party_in, held_kept}
+use Rattle.flag_shelf.proofs.Fit.{job_there, there, held_kept}
 use Rattle.flag_shelf.proofs.flag_shelf.FlagShelfShelf.start_check.Goals as goal
 
 pub returns-in_err-at : goal.returns-in_err-at
@@ -29,11 +29,11 @@ index_mut-requires g c =
     let d = g.R.Reading.kind.blank in
     let v = c.args.self.now in
     let s = flag_state v in
-    omega (arith, job_there d v.plan _ (vec_items v.marks) (vec_items v.jobs) v.sound c.args.party (party_in d v.plan _ (vec_items v.marks) (vec_items v.jobs) v.sound c.args.party c.args.link c.in_ok-at.at (full v.plan (means d s) c.args.party c.args.link ∷ []) c.in_ok-at.ensures), v.jobs.ok.0)
+    omega (arith, job_there d v c.args.party (there d v c.args.party c.args.link c.in_ok-at.at (full v.plan (means d s) c.args.party c.args.link ∷ []) c.in_ok-at.ensures), v.jobs.ok.0)
 
 pub invariant_of-self : goal.invariant_of-self
 invariant_of-self g c =
     let d = g.R.Reading.kind.blank in
     let v = c.args.self.now in
     let s = flag_state v in
-    record { sound = held_kept d v.plan _ (vec_items v.marks) (vec_items v.jobs) v.sound c.args.party c.args.link c.in_ok-at.at c.in_ok-at.ensures (Checking c.in_ok-at.at) (λ f. f) }
+    record { sound = held_kept d v c.args.party c.args.link c.in_ok-at.at c.in_ok-at.ensures (Checking c.in_ok-at.at) (λ f. f) }

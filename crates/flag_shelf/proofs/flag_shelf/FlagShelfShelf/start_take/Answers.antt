@@ -8,7 +8,7 @@ use Rattle.shelf.proofs.Passing.{refused_more}
 use Rattle.flag_rules.specs.Means.{means}
 use Rattle.flag_rules.proofs.AsShelf.{flag_shelf_rules}
 use Rattle.flag_shelf.specs.States.{flag_state}
-use Rattle.flag_shelf.proofs.Fit.{job_there, mark_there, party_in, link_own, take_kept}
+use Rattle.flag_shelf.proofs.Fit.{job_there, mark_there, there, own, take_kept}
 use Rattle.flag_shelf.proofs.flag_shelf.FlagShelfShelf.start_take.Goals as goal
 
 pub returns-in_err-at : goal.returns-in_err-at
@@ -28,18 +28,18 @@ index_mut-requires g c =
     let d = g.R.Reading.kind.blank in
     let v = c.args.self.now in
     let s = flag_state v in
-    omega (arith, mark_there d v.plan _ (vec_items v.marks) (vec_items v.jobs) v.sound c.args.party c.in_ok-at.at (party_in d v.plan _ (vec_items v.marks) (vec_items v.jobs) v.sound c.args.party c.args.link c.in_ok-at.at [] c.in_ok-at.ensures) (link_own d v.plan _ (vec_items v.marks) (vec_items v.jobs) v.sound c.args.party c.args.link c.in_ok-at.at [] c.in_ok-at.ensures), v.marks.ok.0)
+    omega (arith, mark_there d v c.args.party c.in_ok-at.at (there d v c.args.party c.args.link c.in_ok-at.at [] c.in_ok-at.ensures) (own d v c.args.party c.args.link c.in_ok-at.at [] c.in_ok-at.ensures), v.marks.ok.0)
 
 pub index_mut-requires-2 : goal.index_mut-requires-2
 index_mut-requires-2 g c =
     let d = g.R.Reading.kind.blank in
     let v = c.args.self.now in
     let s = flag_state v in
-    omega (arith, job_there d v.plan _ (vec_items v.marks) (vec_items v.jobs) v.sound c.args.party (party_in d v.plan _ (vec_items v.marks) (vec_items v.jobs) v.sound c.args.party c.args.link c.in_ok-at.at [] c.in_ok-at.ensures), v.jobs.ok.0)
+    omega (arith, job_there d v c.args.party (there d v c.args.party c.args.link c.in_ok-at.at [] c.in_ok-at.ensures), v.jobs.ok.0)
 
 pub invariant_of-self : goal.invariant_of-self
 invariant_of-self g c =
     let d = g.R.Reading.kind.blank in
     let v = c.args.self.now in
     let s = flag_state v in
-    record { sound = take_kept d v.plan _ (vec_items v.marks) (vec_items v.jobs) v.sound c.args.party c.args.link c.in_ok-at.at [] c.in_ok-at.ensures c.args.channel c.if-channel-self.false }
+    record { sound = take_kept d v c.args.party c.args.link c.in_ok-at.at [] c.in_ok-at.ensures c.args.channel c.if-channel-self.false }
