@@ -7,7 +7,7 @@ use Rattle.shelf.specs.Meaning.{flat, Link, vacant, holds, Operation, take, put,
 use Rattle.history.specs.Board.{updated}
 use Rattle.history.proofs.Shelf.{Said, taken, stored, missed, live, broken, Job, rests, awaits, forced, Shelf, set_link, Forces, force_take, force_put, force_miss, force_live, force_broken}
 use Rattle.history.proofs.Fitting.{Ready, break_ready}
-use Rattle.history.proofs.Basics.{never, updated_same, updated_other, at_party}
+use Rattle.history.proofs.Basics.{updated_same, updated_other, at_party}
 use Rattle.hub_rules.proofs.Links.{flat_below, flat_apart, flat_other}
 use Rattle.hub_rules.proofs.Match.{answer_of, flat_operation, CanWait, DoesAs, Fits}
 
@@ -108,7 +108,7 @@ module _ {R : Type 0} (blank : R) (pl : Plan) where
                 ∙ relink M m.link p i (holds c (m.reading c) true) F.sizes in_p in_i F.links q j a b;
             activities = redone (set_link m.link p i (holds c (m.reading c) true)) (in_force (answer_of taken)) (forced (take i c) taken) (relink_ready m.link p i _) refl;
           };
-          stored_on = λ c' z. never (let e = z.puts in cc (e, e_d));
+          stored_on = λ c' z. let e = z.puts in cc;
         }
 
     -- the meaning stays but for party p's doing
@@ -157,7 +157,7 @@ module _ {R : Type 0} (blank : R) (pl : Plan) where
         broken_put c' z e_l =
             let same : z.link ≡ flat pl p i = (let e1 = z.puts in cc (e1, e_d)) in
             let l2 : link_at M (flat pl p i) ≡ holds c' z.seen true = ap (link_at M) (sym same) ∙ z.alive in
-            never (cc (e_l, l2))
+            cc
 
     check_force : (i : ℕ) → activity_of M p ≡ waits (check (flat pl p i)) → i < pl.links → (c : ℕ) (r : R) (b : Bool) → m.link p i ≡ holds c r b → Forced M m p (check i)
     check_force i e_d in_i c r true e =
@@ -169,7 +169,7 @@ module _ {R : Type 0} (blank : R) (pl : Plan) where
           link' = m.link;
           forces = force_live i c r e;
           fits = subst (λ (t : Link R). Fits blank pl (does M p (in_force (verdict t))) m.reading m.link (updated m.job p (forced (check i) live))) (sym e_l) (told (check i) live);
-          stored_on = λ c' z. never (let e1 = z.puts in cc (e1, e_d));
+          stored_on = λ c' z. let e1 = z.puts in cc;
         }
     check_force i e_d in_i c r false e =
         let e_l : link_at M (flat pl p i) ≡ holds c r false = F.links p i in_p in_i ∙ e in
@@ -180,7 +180,7 @@ module _ {R : Type 0} (blank : R) (pl : Plan) where
           link' = m.link;
           forces = force_broken i c r e;
           fits = subst (λ (t : Link R). Fits blank pl (does M p (in_force (verdict t))) m.reading m.link (updated m.job p (forced (check i) broken))) (sym e_l) (told (check i) broken);
-          stored_on = λ c' z. never (let e1 = z.puts in cc (e1, e_d));
+          stored_on = λ c' z. let e1 = z.puts in cc;
         }
 
     pub force : (a : Operation R) → m.job p ≡ awaits a → Forced M m p a

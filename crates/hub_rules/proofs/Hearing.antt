@@ -11,7 +11,6 @@ use Rattle.hub_rules.specs.declared.parts.Progress.{Progress}
 use Rattle.hub_rules.specs.declared.parts.Progress.TheVariants.{Run, Done}
 use Rattle.hub_rules.specs.Hub.{Call, Amendment, Picture, Turn, Release, Look, Hub, party_of, progress_of, next_at, tests_of, hub_after, granted, turn_answer, looked}
 use Rattle.hub_rules.specs.Law.{order_call, BringsIntoForce, one_if_accepted, busy_turn}
-use Rattle.history.proofs.Basics.{never}
 
 module _ {R : Type 0} where
   abbrev pub order_event : ℕ → Order → Outcome (Unit {0}) → N.Event R
@@ -46,7 +45,7 @@ module _ {R : Type 0} (kind : KindOf R) (rules : Rules R) where
 
   -- where nothing comes into force and nothing is answered
   pub quiet : (x y : Hub rules) (k : Call) (n : N.Event R) → n ≡ event_of x k false [] → Told x k y n
-  quiet x y k n e = record { forces = false; answer = []; is = e; brings = λ z. absurd (never (cc (z))); looks_give = λ p i a b h. absurd (omega arith) }
+  quiet x y k n e = record { forces = false; answer = []; is = e; brings = λ z. absurd (cc); looks_give = λ p i a b h. absurd (omega arith) }
 
   -- of a refused call the model hears nothing
   pub refused_event : (x : Hub rules) (k : Call) (n : ℕ) → unless_refused (tests_of kind rules x k) (hub_after kind rules x k) ≡ refused n → event_of x k false [] ≡ N.nothing
@@ -65,19 +64,19 @@ module _ {R : Type 0} (kind : KindOf R) (rules : Rules R) where
       let a : q ≡ p = cc (e) in
       let b : o' ≡ o = cc (e) in
       ((λ i. order_call (a i) (b i)), refl)
-  order_back q o' (refused n) p o e = absurd (never (cc (e)))
+  order_back q o' (refused n) p o e = absurd (cc)
 
   turn_no_order : (q : ℕ) (f : Bool) (a : List R) (r : Outcome Progress) (p : ℕ) (o : Order) → N.ordered p o ≡ turn_event q f a r → ⊥
-  turn_no_order q f a (accepted Run) p o e = never (cc (e))
-  turn_no_order q f a (accepted Done) p o e = never (cc (e))
-  turn_no_order q f a (refused n) p o e = never (cc (e))
+  turn_no_order q f a (accepted Run) p o e = cc
+  turn_no_order q f a (accepted Done) p o e = cc
+  turn_no_order q f a (refused n) p o e = cc
 
   release_no_order : (q : ℕ) (r : Outcome (Unit {0})) (p : ℕ) (o : Order) → ◌≡◌ {A = N.Event R} (N.ordered p o) (release_event q r) → ⊥
-  release_no_order q (accepted u) p o e = never (cc (e))
-  release_no_order q (refused n) p o e = never (cc (e))
+  release_no_order q (accepted u) p o e = cc
+  release_no_order q (refused n) p o e = cc
 
   look_no_order : (p : ℕ) (o : Order) → ◌≡◌ {A = N.Event R} (N.ordered p o) N.nothing → ⊥
-  look_no_order p o e = never (cc (e))
+  look_no_order p o e = cc
 
   pub event_ordered : (x : Hub rules) (k : Call) (f : Bool) (a : List R) (p : ℕ) (o : Order) → N.ordered p o ≡ event_of x k f a → (k ≡ order_call p o) × (granted kind rules x k ≡ accepted tt)
   event_ordered x (Amendment q c w) f a p o e = order_back q (amendment c w) (granted kind rules x (Amendment q c w)) p o e
@@ -96,20 +95,20 @@ module _ {R : Type 0} (kind : KindOf R) (rules : Rules R) where
   -- ** a turn that is done
 
   order_no_done : (q : ℕ) (o : Order) (r : Outcome (Unit {0})) (p : ℕ) (g : Bool) (b : List R) → N.done p g b ≡ order_event q o r → ⊥
-  order_no_done q o (accepted u) p g b e = never (cc (e))
-  order_no_done q o (refused n) p g b e = never (cc (e))
+  order_no_done q o (accepted u) p g b e = cc
+  order_no_done q o (refused n) p g b e = cc
 
   release_no_done : (q : ℕ) (r : Outcome (Unit {0})) (p : ℕ) (g : Bool) (b : List R) → N.done p g b ≡ release_event q r → ⊥
-  release_no_done q (accepted u) p g b e = never (cc (e))
-  release_no_done q (refused n) p g b e = never (cc (e))
+  release_no_done q (accepted u) p g b e = cc
+  release_no_done q (refused n) p g b e = cc
 
   look_no_done : (p : ℕ) (g : Bool) (b : List R) → N.done p g b ≡ N.nothing → ⊥
-  look_no_done p g b e = never (cc (e))
+  look_no_done p g b e = cc
 
   turn_back : (q : ℕ) (f : Bool) (a : List R) (r : Outcome Progress) (p : ℕ) (g : Bool) (b : List R) → N.done p g b ≡ turn_event q f a r → (q ≡ p) × (r ≡ accepted Done)
-  turn_back q f a (accepted Run) p g b e = absurd (never (cc (e)))
+  turn_back q f a (accepted Run) p g b e = absurd (cc)
   turn_back q f a (accepted Done) p g b e = (cc (e), refl)
-  turn_back q f a (refused n) p g b e = absurd (never (cc (e)))
+  turn_back q f a (refused n) p g b e = absurd (cc)
 
   pub event_done : (x : Hub rules) (k : Call) (f : Bool) (a : List R) (p : ℕ) (g : Bool) (b : List R) → N.done p g b ≡ event_of x k f a → (k ≡ Turn p) × (turn_answer kind rules x p ≡ accepted Done)
   event_done x (Amendment q c w) f a p g b e = absurd (order_no_done q (amendment c w) (granted kind rules x (Amendment q c w)) p g b e)

@@ -15,7 +15,7 @@ use Rattle.history.specs.Board.{updated, Order, amendment, picture}
 use Rattle.history.proofs.Shelf.{Said, rests, awaits, Shelf, Starts, start_take, start_put, start_check, Forces, force_take, force_put, force_miss, force_live, force_broken, Turn as ModelTurn, turn_still, turn_force, turn_end, turn_both}
 use Rattle.history.proofs.Hub as N
 use Rattle.history.proofs.Hub.{Stage, Task, free, doing, Begun, begun_before, begun_now, Step, step_order, step_run, step_next, step_done, step_release, step_nothing, Past, after_that}
-use Rattle.history.proofs.Basics.{never, updated_other}
+use Rattle.history.proofs.Basics.{updated_other}
 use Rattle.hub_rules.specs.declared.parts.Party.{Party}
 use Rattle.hub_rules.specs.declared.parts.Progress.{Progress}
 use Rattle.hub_rules.specs.declared.parts.Progress.TheVariants.{Run, Done}
@@ -31,7 +31,7 @@ use Rattle.hub_rules.proofs.Running.{plan, range, runs}
 -- ** in the model
 
 not_busy : (p : ℕ) (task : ℕ → Task) (q : ℕ) (o : Order) (st : Stage) → task p ≡ free → task q ≡ doing o st → p ≢ q
-not_busy p task q o st a b e = never (let c = ap task e in cc (a, b, c))
+not_busy p task q o st a b e = let c = ap task e in cc
 
 module _ {R : Type 0} where
   -- what a look at a link shows, if anything
@@ -139,11 +139,11 @@ module _ {R : Type 0} (kind : KindOf R) (rules : Rules R) (pl : Plan) (w : ℕ) 
     shows : shown (h.shelf.link p i) ≡ some r
 
   link_shows : (l : Link R) → not (is_vacant l) ≡ true → r ≡ reading_on rules.blank l → shown l ≡ some r
-  link_shows vacant a b = absurd (never (cc (a)))
+  link_shows vacant a b = absurd (cc)
   link_shows (holds c x t) a b = ap some (sym b)
 
   link_full : (l : Link R) → shown l ≡ some r → (not (is_vacant l) ≡ true) × (reading_on rules.blank l ≡ r)
-  link_full vacant e = absurd (never (cc (e)))
+  link_full vacant e = absurd (cc)
   link_full (holds c x t) e = (refl, cc (e))
 
   module _ (x : Hub rules) (h : N.Hub R) (mt : Matches rules pl w x h) where

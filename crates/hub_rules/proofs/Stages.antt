@@ -12,7 +12,6 @@ use Rattle.hub_rules.specs.declared.parts.Party.{Party}
 use Rattle.hub_rules.specs.declared.parts.Party.TheVariants.{Idle, AmendmentTake, AmendmentPut, PictureTake, PictureCheck}
 use Rattle.hub_rules.specs.declared.parts.Progress.TheVariants as progress
 use Rattle.hub_rules.specs.Hub.{all_below, is_among, none_twice, is_free, progress_of, next}
-use Rattle.history.proofs.Basics.{never}
 use Rattle.hub_rules.proofs.Match.{answer_of, task_of, order_of, stage_of}
 
 -- what an operation and the shelf's answer lead to: the end, or another stage
@@ -74,24 +73,24 @@ next_run (PictureCheck l i) = refl
 -- a party that is free, and one that is not
 pub free_from : (y : Party) → is_free y ≡ true → y ≡ Idle
 free_from Idle e = refl
-free_from (AmendmentTake c w) e = absurd (never (cc))
-free_from (AmendmentPut c w) e = absurd (never (cc))
-free_from (PictureTake l i) e = absurd (never (cc))
-free_from (PictureCheck l i) e = absurd (never (cc))
+free_from (AmendmentTake c w) e = absurd (cc)
+free_from (AmendmentPut c w) e = absurd (cc)
+free_from (PictureTake l i) e = absurd (cc)
+free_from (PictureCheck l i) e = absurd (cc)
 
 pub task_free : (y : Party) → task_of y ≡ free → y ≡ Idle
 task_free Idle e = refl
-task_free (AmendmentTake c w) e = absurd (never (cc))
-task_free (AmendmentPut c w) e = absurd (never (cc))
-task_free (PictureTake l i) e = absurd (never (cc))
-task_free (PictureCheck l i) e = absurd (never (cc))
+task_free (AmendmentTake c w) e = absurd (cc)
+task_free (AmendmentPut c w) e = absurd (cc)
+task_free (PictureTake l i) e = absurd (cc)
+task_free (PictureCheck l i) e = absurd (cc)
 
 pub record Runs (y : Party) : Type 0 where
   pub task : task_of y ≡ doing (order_of y) (stage_of y)
   pub progress : progress_of y ≡ progress.Run
 
 pub runs_from : (y : Party) → not (is_free y) ≡ true → Runs y
-runs_from Idle e = absurd (never (cc))
+runs_from Idle e = absurd (cc)
 runs_from (AmendmentTake c w) e = record { task = refl; progress = refl }
 runs_from (AmendmentPut c w) e = record { task = refl; progress = refl }
 runs_from (PictureTake l i) e = record { task = refl; progress = refl }
@@ -105,12 +104,12 @@ below_at n (c ∷ cs) e zero h = ltb-true c n (and_parts (ltb c n) (all_below n 
 below_at n (c ∷ cs) e (suc i) h = below_at n cs (and_parts (ltb c n) (all_below n cs) e).1 i (omega arith)
 
 or-false : (a b : Bool) → not (a || b) ≡ true → (a ≡ false) × (not b ≡ true)
-or-false true b e = absurd (never (cc))
+or-false true b e = absurd (cc)
 or-false false b e = (refl, e)
 
 not_among : (c : ℕ) (cs : List ℕ) → not (is_among c cs) ≡ true → (i : ℕ) → i < length cs → c ≢ get_or cs i 0
 not_among c [] e i h k = omega arith
-not_among c (x ∷ xs) e zero h k = never (let a = (or-false (eqb c x) (is_among c xs) e).0 in let b = eq-eqb c x k in cc (a, b))
+not_among c (x ∷ xs) e zero h k = let a = (or-false (eqb c x) (is_among c xs) e).0 in let b = eq-eqb c x k in cc
 not_among c (x ∷ xs) e (suc i) h k = not_among c xs (or-false (eqb c x) (is_among c xs) e).1 i (omega arith) k
 
 pub apart_at : (cs : List ℕ) → none_twice cs ≡ true → (i j : ℕ) → i < j → j < length cs → get_or cs i 0 ≢ get_or cs j 0

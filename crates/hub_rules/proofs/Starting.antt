@@ -15,7 +15,7 @@ use Rattle.history.proofs.Shelf.{Job, rests, awaits, Shelf, set_link, Starts, st
 use Rattle.history.proofs.Hub as N
 use Rattle.history.proofs.Hub.{Wants, want_take, want_put, want_check, Begun, begun_before, begun_now}
 use Rattle.history.proofs.Fitting.{Ready, CanBegin}
-use Rattle.history.proofs.Basics.{never, updated_same, updated_other, at_party}
+use Rattle.history.proofs.Basics.{updated_same, updated_other, at_party}
 use Rattle.arrayvec.specs.ArrayVec.{ArrayVec}
 use Rattle.hub_rules.specs.declared.parts.Party.{Party}
 use Rattle.hub_rules.specs.declared.parts.Party.TheVariants.{Idle, AmendmentTake, AmendmentPut, PictureTake, PictureCheck}
@@ -75,7 +75,7 @@ module _ {R : Type 0} (kind : KindOf R) (rules : Rules R) (pl : Plan) (w : ℕ) 
     busy_now : (t : rules.State) (a : Operation R) (link' : ℕ → ℕ → Link R) → Fits rules.blank pl (rules.means t) m.reading link' (updated m.job p (awaits a)) → activity_of (rules.means t) p ≢ idle
     busy_now t a link' F e =
         let d = subst (DoesAs pl p (link' p) (activity_of (rules.means t) p)) (updated_same m.job p (awaits a)) (F.activities p in_p) in
-        let d0 = d.0 in never (cc (e, d0))
+        let d0 = d.0 in cc
 
     module _ (free : activity_of M p ≡ idle) where
       idle_true : is_idle (activity_of M p) ≡ true
@@ -104,7 +104,7 @@ module _ {R : Type 0} (kind : KindOf R) (rules : Rules R) (pl : Plan) (w : ℕ) 
       full i c r b h e = link_is i h ∙ e
 
       not_vacant : (i c : ℕ) (r : R) (b : Bool) → i < pl.links → m.link p i ≡ holds c r b → link_at M (flat (rules.plan s) p i) ≢ vacant
-      not_vacant i c r b h e z = let f = full i c r b h e in never (cc (f, z))
+      not_vacant i c r b h e z = let f = full i c r b h e in cc
 
       full_true : (i c : ℕ) (r : R) (b : Bool) → i < pl.links → m.link p i ≡ holds c r b → not (is_vacant (link_at M (flat (rules.plan s) p i))) ≡ true
       full_true i c r b h e = ap (λ (l : Link R). not (is_vacant l)) (full i c r b h e)
@@ -195,8 +195,8 @@ module _ {R : Type 0} (kind : KindOf R) (rules : Rules R) (pl : Plan) (w : ℕ) 
 
       by_activity : (d : Activity R) → activity_of M p ≡ d → (y : Party) → CanBegin plan (m.link p) (order_of y) (stage_of y) → BegunMatched s m p y
       by_activity idle e y b = begin_free y e b
-      by_activity (waits x) e y b = begin_busy y (λ k. never (cc (e, k))) (ap is_idle e)
-      by_activity (in_force x) e y b = begin_busy y (λ k. never (cc (e, k))) (ap is_idle e)
+      by_activity (waits x) e y b = begin_busy y (λ k. cc) (ap is_idle e)
+      by_activity (in_force x) e y b = begin_busy y (λ k. cc) (ap is_idle e)
 
       pub begun_matched : (y : Party) → CanBegin plan (m.link p) (order_of y) (stage_of y) → BegunMatched s m p y
       begun_matched y b = by_activity (activity_of M p) refl y b

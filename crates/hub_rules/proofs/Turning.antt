@@ -10,7 +10,7 @@ use Rattle.shelf.specs.Meaning.{flat, Link, holds, Operation, take, put, check, 
 use Rattle.shelf.specs.Rules.{Rules}
 use Rattle.history.specs.Board.{updated}
 use Rattle.history.proofs.Shelf.{Said, taken, stored, missed, live, broken, Job, rests, awaits, forced, Shelf, OperationOn, On, Others, Turn, turn_still, turn_force, turn_end, turn_both}
-use Rattle.history.proofs.Basics.{never, updated_same, updated_other, updated_twice, at_party}
+use Rattle.history.proofs.Basics.{updated_same, updated_other, updated_twice, at_party}
 use Rattle.hub_rules.proofs.Match.{answer_of, flat_operation, CanWait, DoesAs, Fits, Shelved}
 use Rattle.hub_rules.proofs.Force.{WaitsToStore, Forced, StoresOn, force, rest_again}
 
@@ -33,24 +33,24 @@ said_back broken = refl
 module _ {R : Type 0} (pl : Plan) where
   -- which job it is, from what the party does
   pub job_waits : (p : ℕ) (l : ℕ → Link R) (d : Activity R) (o : Operation R) (J : Job R) → DoesAs pl p l d J → d ≡ waits o → (a : Operation R) × (J ≡ awaits a) × (o ≡ flat_operation pl p a)
-  job_waits p l d o rests h e = absurd (never (cc (h, e)))
+  job_waits p l d o rests h e = absurd (cc)
   job_waits p l d o (awaits a) h e = (a, refl, let f = h.0 in cc)
-  job_waits p l d o (forced a sd) h e = absurd (never (cc (h, e)))
+  job_waits p l d o (forced a sd) h e = absurd (cc)
 
   pub job_forced : (p : ℕ) (l : ℕ → Link R) (d : Activity R) (x : Answer) (J : Job R) → DoesAs pl p l d J → d ≡ in_force x → (a : Operation R) × (sd : Said) × (J ≡ forced a sd) × (x ≡ answer_of sd)
-  job_forced p l d x rests h e = absurd (never (cc (h, e)))
-  job_forced p l d x (awaits a) h e = absurd (never (let f = h.0 in cc (f, e)))
+  job_forced p l d x rests h e = absurd (cc)
+  job_forced p l d x (awaits a) h e = absurd (let f = h.0 in cc)
   job_forced p l d x (forced a sd) h e = (a, sd, refl, cc (h, e))
 
   pub job_idle : (p : ℕ) (l : ℕ → Link R) (d : Activity R) (J : Job R) → DoesAs pl p l d J → d ≡ idle → J ≡ rests
   job_idle p l d rests h e = refl
-  job_idle p l d (awaits a) h e = absurd (never (let f = h.0 in cc (f, e)))
-  job_idle p l d (forced a sd) h e = absurd (never (cc (h, e)))
+  job_idle p l d (awaits a) h e = absurd (let f = h.0 in cc)
+  job_idle p l d (forced a sd) h e = absurd (cc)
 
   pub busy_back : (p : ℕ) (l l' : ℕ → Link R) (d d' : Activity R) (J : Job R) → DoesAs pl p l d J → DoesAs pl p l' d' J → d' ≢ idle → d ≢ idle
   busy_back p l l' d d' rests h h' n e = n h'
-  busy_back p l l' d d' (awaits a) h h' n e = never (let f = h.0 in cc (f, e))
-  busy_back p l l' d d' (forced a sd) h h' n e = never (cc (h, e))
+  busy_back p l l' d d' (awaits a) h h' n e = let f = h.0 in cc
+  busy_back p l l' d d' (forced a sd) h h' n e = cc
 
   -- the channel of a waiting operation
   act_on : (p : ℕ) (M : Meaning R) (l : ℕ → Link R) (a : Operation R) (c : ℕ) → ((i : ℕ) → i < pl.links → link_at M (flat pl p i) ≡ l i) → CanWait pl l a → is_on M (waits (flat_operation pl p a)) c → OperationOn l a c
@@ -174,7 +174,7 @@ module _ {R : Type 0} (rules : Rules R) (pl : Plan) (w : ℕ) where
     }
 
     comes_to_store : (x : Activity R) → activity_of (rules.means t) p ≡ x → ((o : Operation R) → x ≡ waits o → ⊥) → (f : Option ℕ) → StoresOn rules.blank pl M p f → (c : ℕ) → f ≡ some c → Stores M (rules.means t) p c
-    comes_to_store x e n none so c k = absurd (never (cc (k)))
+    comes_to_store x e n none so c k = absurd (cc)
     comes_to_store x e n (some d) so c k = moved c x e n (subst (WaitsToStore M p) (let q : d ≡ c = cc (k) in q) so)
 
     still : rules.answer s p ≡ Run → rules.means t ≡ M → TurnMatched s m p
@@ -190,7 +190,7 @@ module _ {R : Type 0} (rules : Rules R) (pl : Plan) (w : ℕ) where
               (subst (λ (x : Meaning R). Fits rules.blank pl x m.reading m.link m.job) (sym e_m) ok.fits) (λ q ne. refl)
               (λ q ne h b. let e = updated_other m.left p n q ne in let k = others q ne h b in omega arith)
               (λ b. let e = updated_same m.left p n in omega arith);
-          puts = λ c e. absurd (never (cc (e)));
+          puts = λ c e. absurd (cc);
         }
       where
         idle_rests : m.job p ≡ rests → activity_of M p ≡ idle
@@ -221,7 +221,7 @@ module _ {R : Type 0} (rules : Rules R) (pl : Plan) (w : ℕ) where
       come e_a e_m =
           let ls = lefts G.channel G.stored_on in
           let e_now : activity_of (rules.means t) p ≡ in_force (answer_of G.said) = ap (λ (x : Meaning R). activity_of x p) e_m ∙ forced_now in
-          let on : activity_of (rules.means t) p ≢ idle = λ e. never (cc (e, e_now)) in
+          let on : activity_of (rules.means t) p ≢ idle = λ e. cc in
           let n = rules.left t p - 1 in
           let left'' = updated ls.left' p n in
           let m' : Shelf R = record { reading = G.reading'; link = G.link'; job = updated m.job p (forced act.0 G.said); left = left'' } in
@@ -235,7 +235,7 @@ module _ {R : Type 0} (rules : Rules R) (pl : Plan) (w : ℕ) where
                 (λ q ne. updated_other m.job p _ q ne)
                 (λ q ne h b. let e = updated_other ls.left' p n q ne in let k = ls.bound q ne h b in omega arith)
                 (λ b. let e = updated_same ls.left' p n in omega arith);
-            puts = comes_to_store (in_force (answer_of G.said)) e_now (λ o' k. never (cc (k))) G.channel G.stored_on;
+            puts = comes_to_store (in_force (answer_of G.said)) e_now (λ o' k. cc) G.channel G.stored_on;
           }
         where
           others_updated : (f : Option ℕ) (l : ℕ → ℕ) (n : ℕ) → Others w m p f l → Others w m p f (updated l p n)
@@ -262,7 +262,7 @@ module _ {R : Type 0} (rules : Rules R) (pl : Plan) (w : ℕ) where
             shelved = close m' F' (λ q ne. updated_other m.job p _ q ne)
                 (λ q ne h b. let e = updated_other ls.left' p 0 q ne in let k = ls.bound q ne h b in omega arith)
                 (λ b. absurd (b rest));
-            puts = comes_to_store idle rest (λ o' k. never (cc (k))) G.channel G.stored_on;
+            puts = comes_to_store idle rest (λ o' k. cc) G.channel G.stored_on;
           }
         where
           others_updated : (f : Option ℕ) (l : ℕ → ℕ) (n : ℕ) → Others w m p f l → Others w m p f (updated l p n)
@@ -283,7 +283,7 @@ module _ {R : Type 0} (rules : Rules R) (pl : Plan) (w : ℕ) where
           then = m';
           turn = subst (λ (x : Option Said). Turn w m p none x m') (sym e_s) (turn_end j.0 j.1 j.2);
           shelved = close m' F' (λ q ne. updated_other m.job p _ q ne) (λ q ne h b. bound q ne h b) (λ b. absurd (b rest));
-          puts = λ c e. absurd (never (cc (e)));
+          puts = λ c e. absurd (cc);
         }
       where
         bound : (q : ℕ) → q ≢ p → q < pl.parties → activity_of M q ≢ idle → rules.left t q ≤ suc (m.left q)
@@ -291,7 +291,7 @@ module _ {R : Type 0} (rules : Rules R) (pl : Plan) (w : ℕ) where
           where
             go : (rules.left t q ≤ rules.left s q) ⊎ ((c : ℕ) × Stores M (rules.means t) p c × is_on M (activity_of M q) c) → rules.left t q ≤ suc (m.left q)
             go (inl l) = let k = ok.left q h b in omega arith
-            go (inr z) = absurd (never (let e = z.1.comes.waited in cc (e, e_d)))
+            go (inr z) = absurd (let e = z.1.comes.waited in cc)
 
     by_turn : (a : Answer) (M' : Meaning R) → Turned rules.blank M p a M' → rules.answer s p ≡ a → rules.means t ≡ M' → TurnMatched s m p
     by_turn a M' (alters_nothing) e_a e_m = still e_a e_m

@@ -7,7 +7,7 @@ pub const MOST_LISTED: usize = 4;
 pub type ChannelList = ArrayVec<u8, MOST_LISTED>;
 
 /// What the hub keeps of a party: the operation that runs, and how far it is. It keeps no reading.
-#[derive(Drop)]
+#[derive(Clone, Drop)]
 pub enum Party {
     /// No operation runs.
     Idle,
