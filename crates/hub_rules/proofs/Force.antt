@@ -9,7 +9,7 @@ use Rattle.history.proofs.Shelf.{Said, taken, stored, missed, live, broken, Job,
 use Rattle.history.proofs.Fitting.{Ready, break_ready}
 use Rattle.history.proofs.Basics.{updated_same, updated_other, at_party}
 use Rattle.hub_rules.proofs.Links.{flat_below, flat_apart, flat_other}
-use Rattle.hub_rules.proofs.Match.{answer_of, flat_operation, CanWait, DoesAs, Fits}
+use Rattle.hub_rules.proofs.Match.{answer_of, flat_operation, CanWait, DoesAs, Fits, does_at}
 
 -- party p's waiting put is on a live link of channel c
 pub record WaitsToStore {R : Type 0} (M : Meaning R) (p c : ℕ) : Type 0 where
@@ -184,7 +184,7 @@ module _ {R : Type 0} (blank : R) (pl : Plan) where
         }
 
     pub force : (a : Operation R) → m.job p ≡ awaits a → Forced M m p a
-    force a e_j = go a (subst (DoesAs pl p (m.link p) (activity_of M p)) e_j (F.activities p in_p))
+    force a e_j = go a (does_at F p (awaits a) in_p e_j)
       where
         go : (a : Operation R) → DoesAs pl p (m.link p) (activity_of M p) (awaits a) → Forced M m p a
         go (take i c) d = take_force i c d.0 d.1.0 d.1.1

@@ -45,7 +45,7 @@ module _ {R : Type 0} (kind : KindOf R) (rules : Rules R) where
 
   -- where nothing comes into force and nothing is answered
   pub quiet : (x y : Hub rules) (k : Call) (n : N.Event R) → n ≡ event_of x k false [] → Told x k y n
-  quiet x y k n e = record { forces = false; answer = []; is = e; brings = λ z. absurd (cc); looks_give = λ p i a b h. absurd (omega arith) }
+  quiet x y k n e = record { forces = false; answer = []; is = e; brings = λ z. absurd cc; looks_give = λ p i a b h. absurd (omega arith) }
 
   -- of a refused call the model hears nothing
   pub refused_event : (x : Hub rules) (k : Call) (n : ℕ) → unless_refused (tests_of kind rules x k) (hub_after kind rules x k) ≡ refused n → event_of x k false [] ≡ N.nothing
@@ -64,7 +64,7 @@ module _ {R : Type 0} (kind : KindOf R) (rules : Rules R) where
       let a : q ≡ p = cc (e) in
       let b : o' ≡ o = cc (e) in
       ((λ i. order_call (a i) (b i)), refl)
-  order_back q o' (refused n) p o e = absurd (cc)
+  order_back q o' (refused n) p o e = absurd cc
 
   turn_no_order : (q : ℕ) (f : Bool) (a : List R) (r : Outcome Progress) (p : ℕ) (o : Order) → N.ordered p o ≡ turn_event q f a r → ⊥
   turn_no_order q f a (accepted Run) p o e = cc
@@ -106,9 +106,9 @@ module _ {R : Type 0} (kind : KindOf R) (rules : Rules R) where
   look_no_done p g b e = cc
 
   turn_back : (q : ℕ) (f : Bool) (a : List R) (r : Outcome Progress) (p : ℕ) (g : Bool) (b : List R) → N.done p g b ≡ turn_event q f a r → (q ≡ p) × (r ≡ accepted Done)
-  turn_back q f a (accepted Run) p g b e = absurd (cc)
+  turn_back q f a (accepted Run) p g b e = absurd cc
   turn_back q f a (accepted Done) p g b e = (cc (e), refl)
-  turn_back q f a (refused n) p g b e = absurd (cc)
+  turn_back q f a (refused n) p g b e = absurd cc
 
   pub event_done : (x : Hub rules) (k : Call) (f : Bool) (a : List R) (p : ℕ) (g : Bool) (b : List R) → N.done p g b ≡ event_of x k f a → (k ≡ Turn p) × (turn_answer kind rules x p ≡ accepted Done)
   event_done x (Amendment q c w) f a p g b e = absurd (order_no_done q (amendment c w) (granted kind rules x (Amendment q c w)) p g b e)

@@ -139,11 +139,11 @@ module _ {R : Type 0} (kind : KindOf R) (rules : Rules R) (pl : Plan) (w : ℕ) 
     shows : shown (h.shelf.link p i) ≡ some r
 
   link_shows : (l : Link R) → not (is_vacant l) ≡ true → r ≡ reading_on rules.blank l → shown l ≡ some r
-  link_shows vacant a b = absurd (cc)
+  link_shows vacant a b = absurd cc
   link_shows (holds c x t) a b = ap some (sym b)
 
   link_full : (l : Link R) → shown l ≡ some r → (not (is_vacant l) ≡ true) × (reading_on rules.blank l ≡ r)
-  link_full vacant e = absurd (cc)
+  link_full vacant e = absurd cc
   link_full (holds c x t) e = (refl, cc (e))
 
   module _ (x : Hub rules) (h : N.Hub R) (mt : Matches rules pl w x h) where

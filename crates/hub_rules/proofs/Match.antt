@@ -77,6 +77,15 @@ module _ {R : Type 0} where
     pub fits : Fits rules.blank pl (rules.means s) m.reading m.link m.job
     pub left : (p : ℕ) → p < pl.parties → activity_of (rules.means s) p ≢ idle → rules.left s p ≤ suc (m.left p)
 
+  -- what a party does, by its job
+  pub does_at : {blank : R} {pl : Plan} {M : Meaning R} {reading : ℕ → R} {link : ℕ → ℕ → Link R} {job : ℕ → Job R} → Fits blank pl M reading link job
+      → (p : ℕ) (J : Job R) → p < pl.parties → job p ≡ J → DoesAs pl p (link p) (activity_of M p) J
+  does_at F p J in_p e = rw (← e) (F.activities p in_p)
+
+  pub link_is : {rules : Rules R} {pl : Plan} {w : ℕ} {s : rules.State} {m : Shelf R} → Shelved rules pl w s m
+      → (p i : ℕ) → p < pl.parties → i < pl.links → link_at (rules.means s) (flat (rules.plan s) p i) ≡ m.link p i
+  link_is ok p i in_p in_i = rw ok.plan (ok.fits.links p i in_p in_i)
+
   -- an exact hub and a hub of the model
   pub record Matches (rules : Rules R) (pl : Plan) (w : ℕ) (x : Hub rules) (h : N.Hub R) : Type 0 where
     pub shelved : Shelved rules pl w x.shelf h.shelf

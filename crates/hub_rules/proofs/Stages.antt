@@ -1,7 +1,7 @@
 -- What follows from the shelf's answer, exactly and in the model; lists that pass the hub's tests.
-use Rattle.std.proofs.Common.{◌≡◌, ℕ, zero, suc, ◌+◌, ◌<◌, Bool, true, false, cond, not, ◌||◌, eqb, ltb, ◌≢◌, List, [], ◌∷◌, length, get_or, refl, ap, subst, arith}
+use Rattle.std.proofs.Common.{◌≡◌, ℕ, zero, suc, ◌+◌, ◌<◌, Bool, true, false, cond, not, ◌||◌, eqb, ltb, ◌≢◌, List, [], ◌∷◌, length, get_or, refl, add-one, arith}
 use mathlib.Core.Option.{none, some}
-use Rattle.std.proofs.lemmas.Bool.{ltb-true, ltb-false, eq-eqb, and_parts}
+use Rattle.std.proofs.lemmas.Bool.{ltb-true, ltb-false, eqb-false, not-true, and_parts, or_parts, cond-true, cond-false}
 use Rattle.shelf.specs.declared.answer.Answer.TheVariants.{Run}
 use Rattle.history.specs.Board.{picture}
 use Rattle.history.proofs.Shelf.{Said, taken, stored as put_stored, missed, live, broken}
@@ -19,26 +19,16 @@ pub data Leads (y : Party) (sd : Said) : Type 0 where
   to_end : Next (order_of y) (stage_of y) sd none → next y (answer_of sd) ≡ Idle → Leads y sd
   to_stage : (y' : Party) (st : Stage) → Next (order_of y) (stage_of y) sd (some st) → next y (answer_of sd) ≡ y' → task_of y' ≡ doing (order_of y) st → progress_of y' ≡ progress.Run → Leads y sd
 
-one_more : (j : ℕ) → suc j ≡ j + 1
-one_more j = omega arith
-
 module _ (l : ArrayVec ℕ) (j : ℕ) (h : j < length l.items) where
   take_leads : (b : Bool) → ltb (j + 1) (length l.items) ≡ b → Leads (PictureTake l j) taken
   take_leads true e =
-      to_stage (PictureTake l (j + 1)) (taking (j + 1))
-      (subst (λ (n : ℕ). Next (picture l.items) (taking j) taken (some (taking n))) (one_more j) (next_take (picture l.items) j (let k = ltb-true (j + 1) (length l.items) e in omega arith)))
-      (ap (λ (b : Bool). cond b (PictureTake l (j + 1)) (PictureCheck l 0)) e) refl refl
-  take_leads false e =
-      to_stage (PictureCheck l 0) (checking 0) (next_check l.items j (let k = ltb-false (j + 1) (length l.items) e in omega arith))
-      (ap (λ (b : Bool). cond b (PictureTake l (j + 1)) (PictureCheck l 0)) e) refl refl
+      to_stage (PictureTake l (j + 1)) (taking (j + 1)) (rw add-one (next_take (picture l.items) j (omega (arith, ltb-true)))) (cond-true _ _ _ e) refl refl
+  take_leads false e = to_stage (PictureCheck l 0) (checking 0) (next_check l.items j (omega (arith, ltb-false))) (cond-false _ _ _ e) refl refl
 
   check_leads : (b : Bool) → ltb (j + 1) (length l.items) ≡ b → Leads (PictureCheck l j) live
   check_leads true e =
-      to_stage (PictureCheck l (j + 1)) (checking (j + 1))
-      (subst (λ (n : ℕ). Next (picture l.items) (checking j) live (some (checking n))) (one_more j) (live_next l.items j (let k = ltb-true (j + 1) (length l.items) e in omega arith)))
-      (ap (λ (b : Bool). cond b (PictureCheck l (j + 1)) Idle) e) refl refl
-  check_leads false e =
-      to_end (live_done l.items j (let k = ltb-false (j + 1) (length l.items) e in omega arith)) (ap (λ (b : Bool). cond b (PictureCheck l (j + 1)) Idle) e)
+      to_stage (PictureCheck l (j + 1)) (checking (j + 1)) (rw add-one (live_next l.items j (omega (arith, ltb-true)))) (cond-true _ _ _ e) refl refl
+  check_leads false e = to_end (live_done l.items j (omega (arith, ltb-false))) (cond-false _ _ _ e)
 
 pub leads : (y : Party) (sd : Said) → CanSay (order_of y) (stage_of y) sd → Leads y sd
 leads Idle sd s = absurd s
@@ -73,24 +63,24 @@ next_run (PictureCheck l i) = refl
 -- a party that is free, and one that is not
 pub free_from : (y : Party) → is_free y ≡ true → y ≡ Idle
 free_from Idle e = refl
-free_from (AmendmentTake c w) e = absurd (cc)
-free_from (AmendmentPut c w) e = absurd (cc)
-free_from (PictureTake l i) e = absurd (cc)
-free_from (PictureCheck l i) e = absurd (cc)
+free_from (AmendmentTake c w) e = cc
+free_from (AmendmentPut c w) e = cc
+free_from (PictureTake l i) e = cc
+free_from (PictureCheck l i) e = cc
 
 pub task_free : (y : Party) → task_of y ≡ free → y ≡ Idle
 task_free Idle e = refl
-task_free (AmendmentTake c w) e = absurd (cc)
-task_free (AmendmentPut c w) e = absurd (cc)
-task_free (PictureTake l i) e = absurd (cc)
-task_free (PictureCheck l i) e = absurd (cc)
+task_free (AmendmentTake c w) e = cc
+task_free (AmendmentPut c w) e = cc
+task_free (PictureTake l i) e = cc
+task_free (PictureCheck l i) e = cc
 
 pub record Runs (y : Party) : Type 0 where
   pub task : task_of y ≡ doing (order_of y) (stage_of y)
   pub progress : progress_of y ≡ progress.Run
 
 pub runs_from : (y : Party) → not (is_free y) ≡ true → Runs y
-runs_from Idle e = absurd (cc)
+runs_from Idle e = absurd cc
 runs_from (AmendmentTake c w) e = record { task = refl; progress = refl }
 runs_from (AmendmentPut c w) e = record { task = refl; progress = refl }
 runs_from (PictureTake l i) e = record { task = refl; progress = refl }
@@ -100,21 +90,17 @@ runs_from (PictureCheck l i) e = record { task = refl; progress = refl }
 
 pub below_at : (n : ℕ) (cs : List ℕ) → all_below n cs ≡ true → (i : ℕ) → i < length cs → get_or cs i 0 < n
 below_at n [] e i h = absurd (omega arith)
-below_at n (c ∷ cs) e zero h = ltb-true c n (and_parts (ltb c n) (all_below n cs) e).0
-below_at n (c ∷ cs) e (suc i) h = below_at n cs (and_parts (ltb c n) (all_below n cs) e).1 i (omega arith)
+below_at n (c ∷ cs) e zero h = ltb-true c n (and_parts _ _ e).0
+below_at n (c ∷ cs) e (suc i) h = below_at n cs (and_parts _ _ e).1 i (omega arith)
 
-or-false : (a b : Bool) → not (a || b) ≡ true → (a ≡ false) × (not b ≡ true)
-or-false true b e = absurd (cc)
-or-false false b e = (refl, e)
-
-not_among : (c : ℕ) (cs : List ℕ) → not (is_among c cs) ≡ true → (i : ℕ) → i < length cs → c ≢ get_or cs i 0
+not_among : (c : ℕ) (cs : List ℕ) → is_among c cs ≡ false → (i : ℕ) → i < length cs → c ≢ get_or cs i 0
 not_among c [] e i h k = omega arith
-not_among c (x ∷ xs) e zero h k = let a = (or-false (eqb c x) (is_among c xs) e).0 in let b = eq-eqb c x k in cc
-not_among c (x ∷ xs) e (suc i) h k = not_among c xs (or-false (eqb c x) (is_among c xs) e).1 i (omega arith) k
+not_among c (x ∷ xs) e zero h k = eqb-false c x (or_parts _ _ e).0 k
+not_among c (x ∷ xs) e (suc i) h k = not_among c xs (or_parts _ _ e).1 i (omega arith) k
 
 pub apart_at : (cs : List ℕ) → none_twice cs ≡ true → (i j : ℕ) → i < j → j < length cs → get_or cs i 0 ≢ get_or cs j 0
 apart_at [] e i j h l k = omega arith
 apart_at (c ∷ cs) e zero zero h l k = omega arith
-apart_at (c ∷ cs) e zero (suc j) h l k = not_among c cs (and_parts (not (is_among c cs)) (none_twice cs) e).0 j (omega arith) k
+apart_at (c ∷ cs) e zero (suc j) h l k = not_among c cs (not-true _ (and_parts _ _ e).0) j (omega arith) k
 apart_at (c ∷ cs) e (suc i) zero h l k = omega arith
-apart_at (c ∷ cs) e (suc i) (suc j) h l k = apart_at cs (and_parts (not (is_among c cs)) (none_twice cs) e).1 i j (omega arith) (omega arith) k
+apart_at (c ∷ cs) e (suc i) (suc j) h l k = apart_at cs (and_parts _ _ e).1 i j (omega arith) (omega arith) k

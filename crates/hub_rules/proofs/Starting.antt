@@ -20,7 +20,7 @@ use Rattle.arrayvec.specs.ArrayVec.{ArrayVec}
 use Rattle.hub_rules.specs.declared.parts.Party.{Party}
 use Rattle.hub_rules.specs.declared.parts.Party.TheVariants.{Idle, AmendmentTake, AmendmentPut, PictureTake, PictureCheck}
 use Rattle.hub_rules.specs.Hub.{accepted_or, taken_by, started, begun}
-use Rattle.hub_rules.proofs.Match.{order_of, stage_of, flat_operation, CanWait, DoesAs, Fits, Shelved}
+use Rattle.hub_rules.proofs.Match.{order_of, stage_of, flat_operation, CanWait, Fits, Shelved, does_at, link_is}
 use Rattle.hub_rules.proofs.Force.{redo, relink, relink_ready}
 use Rattle.hub_rules.proofs.Turning.{busy_back, job_idle}
 
@@ -36,16 +36,13 @@ module _ {R : Type 0} (kind : KindOf R) (rules : Rules R) (pl : Plan) (w : ℕ) 
     M = rules.means s
 
     in_plan : p < (rules.plan s).parties
-    in_plan = subst (λ (x : Plan). p < x.parties) (sym ok.plan) in_p
+    in_plan = rw ok.plan in_p
 
     in_links : (i : ℕ) → i < pl.links → i < (rules.plan s).links
-    in_links i h = subst (λ (x : Plan). i < x.links) (sym ok.plan) h
+    in_links i h = rw ok.plan h
 
     in_channels : (c : ℕ) → c < pl.channels → c < (rules.plan s).channels
-    in_channels c h = subst (λ (x : Plan). c < x.channels) (sym ok.plan) h
-
-    link_is : (i : ℕ) → i < pl.links → link_at M (flat (rules.plan s) p i) ≡ m.link p i
-    link_is i h = ap (λ (x : Plan). link_at M (flat x p i)) ok.plan ∙ ok.fits.links p i in_p h
+    in_channels c h = rw ok.plan h
 
     -- a state in which party p's operation has started
     started_shelved : (t : rules.State) (a : Operation R) (link' : ℕ → ℕ → Link R) → Keeps rules.State rules.plan rules.patience rules.sound rules.left p s t
@@ -60,21 +57,21 @@ module _ {R : Type 0} (kind : KindOf R) (rules : Rules R) (pl : Plan) (w : ℕ) 
           (λ h b. let e = updated_same m.left p (rules.left t p - 1) in omega arith)
           (λ q ne h b.
           let e = updated_other m.left p (rules.left t p - 1) q ne in
-          let l = k.left' q ne (subst (λ (x : Plan). q < x.parties) (sym ok.plan) h) in
+          let l = k.left' q ne (rw ok.plan h) in
           let l' = ok.left q h (busy_back pl q (m.link q) (link' q) (activity_of M q) (activity_of (rules.means t) q) (m.job q) (ok.fits.activities q h)
-          (subst (DoesAs pl q (link' q) (activity_of (rules.means t) q)) (updated_other m.job p (awaits a) q ne) (F.activities q h)) b) in
+          (does_at F q (m.job q) h (updated_other m.job p (awaits a) q ne)) b) in
           omega arith);
     }
 
     within : (t : rules.State) → Keeps rules.State rules.plan rules.patience rules.sound rules.left p s t → rules.left t p - 1 ≤ w
     within t k =
-        let l = rules.most t p k.sound' (subst (λ (x : Plan). p < x.parties) (sym k.plan') in_plan) in
+        let l = rules.most t p k.sound' (rw k.plan' in_plan) in
         let e = k.patience' ∙ ok.patience in
         omega arith
 
     busy_now : (t : rules.State) (a : Operation R) (link' : ℕ → ℕ → Link R) → Fits rules.blank pl (rules.means t) m.reading link' (updated m.job p (awaits a)) → activity_of (rules.means t) p ≢ idle
     busy_now t a link' F e =
-        let d = subst (DoesAs pl p (link' p) (activity_of (rules.means t) p)) (updated_same m.job p (awaits a)) (F.activities p in_p) in
+        let d = does_at F p (awaits a) in_p (updated_same m.job p (awaits a)) in
         let d0 = d.0 in cc
 
     module _ (free : activity_of M p ≡ idle) where
@@ -101,7 +98,7 @@ module _ {R : Type 0} (kind : KindOf R) (rules : Rules R) (pl : Plan) (w : ℕ) 
           ap (λ (b : Bool). cond b (C.after rules s k) s) idle_true ∙ ap (C.leaves s) (passes (C.tests_of (rules.plan s) M k) (C.state_after rules s k) t)
 
       full : (i c : ℕ) (r : R) (b : Bool) → i < pl.links → m.link p i ≡ holds c r b → link_at M (flat (rules.plan s) p i) ≡ holds c r b
-      full i c r b h e = link_is i h ∙ e
+      full i c r b h e = link_is ok p i in_p h ∙ e
 
       not_vacant : (i c : ℕ) (r : R) (b : Bool) → i < pl.links → m.link p i ≡ holds c r b → link_at M (flat (rules.plan s) p i) ≢ vacant
       not_vacant i c r b h e z = let f = full i c r b h e in cc
@@ -188,7 +185,7 @@ module _ {R : Type 0} (kind : KindOf R) (rules : Rules R) (pl : Plan) (w : ℕ) 
       begin_busy y busy e =
           record {
             then = m;
-            begins = begun_before (λ k. busy (subst (DoesAs pl p (m.link p) (activity_of M p)) k (ok.fits.activities p in_p)));
+            begins = begun_before (λ k. busy (does_at ok.fits p rests in_p k));
             shelved = subst (λ (x : rules.State). Shelved rules pl w x m) (sym (running_stays y e)) ok;
             busy = subst (λ (x : rules.State). activity_of (rules.means x) p ≢ idle) (sym (running_stays y e)) busy;
           }

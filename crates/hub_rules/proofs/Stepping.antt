@@ -51,11 +51,11 @@ module _ {R : Type 0} where
 
 -- only a put is at the stage of putting
 put_from_lem : (y : Party) (c w : ℕ) → order_of y ≡ amendment c w → stage_of y ≡ putting → y ≡ AmendmentPut c w
-put_from_lem Idle c w e s = absurd (cc)
-put_from_lem (AmendmentTake d v) c w e s = absurd (cc)
+put_from_lem Idle c w e s = absurd cc
+put_from_lem (AmendmentTake d v) c w e s = absurd cc
 put_from_lem (AmendmentPut d v) c w e s = let a : d ≡ c = cc (e) in let b : v ≡ w = cc (e) in λ i. AmendmentPut (a i) (b i)
-put_from_lem (PictureTake l i) c w e s = absurd (cc)
-put_from_lem (PictureCheck l i) c w e s = absurd (cc)
+put_from_lem (PictureTake l i) c w e s = absurd cc
+put_from_lem (PictureCheck l i) c w e s = absurd cc
 
 module _ {R : Type 0} (kind : KindOf R) (rules : Rules R) (plan : N.Plan) (pl : Plan) (w : ℕ) (range : InRange pl)
     (same_parties : plan.parties ≡ pl.parties) (same_links : plan.links ≡ pl.links) (same_channels : plan.channels ≡ pl.channels) (same_patience : w ≡ plan.patience) where
@@ -129,7 +129,7 @@ module _ {R : Type 0} (kind : KindOf R) (rules : Rules R) (plan : N.Plan) (pl : 
 
       brings_at : (c : Option ℕ) → ((d : ℕ) → c ≡ some d → Stores (rules.means s) (rules.means (rules.turned s p)) p d) → ((d : ℕ) → c ≡ some d → (v : ℕ) × (order_of y ≡ amendment d v) × (stage_of y ≡ putting))
           → (v : Party) → is_some c ≡ true → BringsIntoForce kind rules x (Turn p) (then_at v)
-      brings_at none puts am v e = absurd (cc)
+      brings_at none puts am v e = absurd cc
       brings_at (some d) puts am v e =
           let a = am d refl in
           let is = put_from_lem y d a.0 a.1 a.2 in

@@ -11,7 +11,7 @@ use Rattle.shelf.specs.Rules.{Rules}
 use Rattle.history.specs.Board.{updated}
 use Rattle.history.proofs.Shelf.{Said, taken, stored, missed, live, broken, Job, rests, awaits, forced, Shelf, OperationOn, On, Others, Turn, turn_still, turn_force, turn_end, turn_both}
 use Rattle.history.proofs.Basics.{updated_same, updated_other, updated_twice, at_party}
-use Rattle.hub_rules.proofs.Match.{answer_of, flat_operation, CanWait, DoesAs, Fits, Shelved}
+use Rattle.hub_rules.proofs.Match.{answer_of, flat_operation, CanWait, DoesAs, Fits, Shelved, does_at}
 use Rattle.hub_rules.proofs.Force.{WaitsToStore, Forced, StoresOn, force, rest_again}
 
 -- the answer that a turn hands over
@@ -33,19 +33,19 @@ said_back broken = refl
 module _ {R : Type 0} (pl : Plan) where
   -- which job it is, from what the party does
   pub job_waits : (p : ℕ) (l : ℕ → Link R) (d : Activity R) (o : Operation R) (J : Job R) → DoesAs pl p l d J → d ≡ waits o → (a : Operation R) × (J ≡ awaits a) × (o ≡ flat_operation pl p a)
-  job_waits p l d o rests h e = absurd (cc)
+  job_waits p l d o rests h e = absurd cc
   job_waits p l d o (awaits a) h e = (a, refl, let f = h.0 in cc)
-  job_waits p l d o (forced a sd) h e = absurd (cc)
+  job_waits p l d o (forced a sd) h e = absurd cc
 
   pub job_forced : (p : ℕ) (l : ℕ → Link R) (d : Activity R) (x : Answer) (J : Job R) → DoesAs pl p l d J → d ≡ in_force x → (a : Operation R) × (sd : Said) × (J ≡ forced a sd) × (x ≡ answer_of sd)
-  job_forced p l d x rests h e = absurd (cc)
+  job_forced p l d x rests h e = absurd cc
   job_forced p l d x (awaits a) h e = absurd (let f = h.0 in cc)
   job_forced p l d x (forced a sd) h e = (a, sd, refl, cc (h, e))
 
   pub job_idle : (p : ℕ) (l : ℕ → Link R) (d : Activity R) (J : Job R) → DoesAs pl p l d J → d ≡ idle → J ≡ rests
   job_idle p l d rests h e = refl
   job_idle p l d (awaits a) h e = absurd (let f = h.0 in cc)
-  job_idle p l d (forced a sd) h e = absurd (cc)
+  job_idle p l d (forced a sd) h e = absurd cc
 
   pub busy_back : (p : ℕ) (l l' : ℕ → Link R) (d d' : Activity R) (J : Job R) → DoesAs pl p l d J → DoesAs pl p l' d' J → d' ≢ idle → d ≢ idle
   busy_back p l l' d d' rests h h' n e = n h'
@@ -80,10 +80,10 @@ module _ {R : Type 0} (rules : Rules R) (pl : Plan) (w : ℕ) where
     M = rules.means s
 
     in_plan : (q : ℕ) → q < pl.parties → q < (rules.plan s).parties
-    in_plan q h = subst (λ (x : Plan). q < x.parties) (sym ok.plan) h
+    in_plan q h = rw ok.plan h
 
     in_plan' : (q : ℕ) → q < pl.parties → q < (rules.plan t).parties
-    in_plan' q h = subst (λ (x : Plan). q < x.parties) (sym ((rules.turns s p ok.sound (in_plan p in_p) busy).1 ∙ ok.plan)) h
+    in_plan' q h = rw ((rules.turns s p ok.sound (in_plan p in_p) busy).1, ok.plan) h
 
     sound' : rules.sound t
     sound' = (rules.turns s p ok.sound (in_plan p in_p) busy).0
@@ -161,7 +161,7 @@ module _ {R : Type 0} (rules : Rules R) (pl : Plan) (w : ℕ) where
       fits = F;
       left = at_party p (λ q. q < pl.parties → activity_of (rules.means t) q ≢ idle → rules.left t q ≤ suc (m'.left q)) (λ h b. own b)
           (λ q ne h b. others q ne h (busy_back pl q (m.link q) (m'.link q) (activity_of M q) (activity_of (rules.means t) q) (m.job q) (ok.fits.activities q h)
-          (subst (DoesAs pl q (m'.link q) (activity_of (rules.means t) q)) (same q ne) (F.activities q h)) b));
+          (does_at F q (m.job q) h (same q ne)) b));
     }
 
     moved : (c : ℕ) (x : Activity R) → activity_of (rules.means t) p ≡ x → ((o : Operation R) → x ≡ waits o → ⊥) → WaitsToStore M p c → Stores M (rules.means t) p c
@@ -174,7 +174,7 @@ module _ {R : Type 0} (rules : Rules R) (pl : Plan) (w : ℕ) where
     }
 
     comes_to_store : (x : Activity R) → activity_of (rules.means t) p ≡ x → ((o : Operation R) → x ≡ waits o → ⊥) → (f : Option ℕ) → StoresOn rules.blank pl M p f → (c : ℕ) → f ≡ some c → Stores M (rules.means t) p c
-    comes_to_store x e n none so c k = absurd (cc)
+    comes_to_store x e n none so c k = absurd cc
     comes_to_store x e n (some d) so c k = moved c x e n (subst (WaitsToStore M p) (let q : d ≡ c = cc (k) in q) so)
 
     still : rules.answer s p ≡ Run → rules.means t ≡ M → TurnMatched s m p
@@ -190,11 +190,11 @@ module _ {R : Type 0} (rules : Rules R) (pl : Plan) (w : ℕ) where
               (subst (λ (x : Meaning R). Fits rules.blank pl x m.reading m.link m.job) (sym e_m) ok.fits) (λ q ne. refl)
               (λ q ne h b. let e = updated_other m.left p n q ne in let k = others q ne h b in omega arith)
               (λ b. let e = updated_same m.left p n in omega arith);
-          puts = λ c e. absurd (cc);
+          puts = λ c e. absurd cc;
         }
       where
         idle_rests : m.job p ≡ rests → activity_of M p ≡ idle
-        idle_rests e = subst (DoesAs pl p (m.link p) (activity_of M p)) e (ok.fits.activities p in_p)
+        idle_rests e = does_at ok.fits p rests in_p e
 
         others : (q : ℕ) → q ≢ p → q < pl.parties → activity_of M q ≢ idle → rules.left t q ≤ suc (m.left q)
         others q ne h b = go (rules.stays s p q ok.sound (in_plan p in_p) (in_plan q h) ne busy)
@@ -215,7 +215,7 @@ module _ {R : Type 0} (rules : Rules R) (pl : Plan) (w : ℕ) where
       brought_fits = subst (λ (x : Operation R). Fits rules.blank pl (brought rules.blank M p x) G.reading' G.link' (updated m.job p (forced act.0 G.said))) (sym act.2) G.fits
 
       forced_now : activity_of (brought rules.blank M p o) p ≡ in_force (answer_of G.said)
-      forced_now = subst (DoesAs pl p (G.link' p) (activity_of (brought rules.blank M p o) p)) (updated_same m.job p (forced act.0 G.said)) (brought_fits.activities p in_p)
+      forced_now = does_at brought_fits p (forced act.0 G.said) in_p (updated_same m.job p (forced act.0 G.said))
 
       come : rules.answer s p ≡ Run → rules.means t ≡ brought rules.blank M p o → TurnMatched s m p
       come e_a e_m =
@@ -251,7 +251,7 @@ module _ {R : Type 0} (rules : Rules R) (pl : Plan) (w : ℕ) where
           subst (λ (x : Meaning R). Fits rules.blank pl x G.reading' G.link' (updated m.job p rests)) (sym e_m)
           (subst (Fits rules.blank pl (does (brought rules.blank M p o) p idle) G.reading' G.link') (updated_twice m.job p (forced act.0 G.said) rests)
           (rest_again rules.blank pl (brought rules.blank M p o) G.reading' G.link' (updated m.job p (forced act.0 G.said)) p in_p brought_fits)) in
-          let rest : activity_of (rules.means t) p ≡ idle = subst (DoesAs pl p (G.link' p) (activity_of (rules.means t) p)) (updated_same m.job p rests) (F'.activities p in_p) in
+          let rest : activity_of (rules.means t) p ≡ idle = does_at F' p rests in_p (updated_same m.job p rests) in
           let e_s : said_of (rules.answer s p) ≡ some G.said = ap said_of (e_a ∙ (let f = forced_now in cc (e_f, f))) ∙ said_back G.said in
           record {
             channel = G.channel;
@@ -276,14 +276,14 @@ module _ {R : Type 0} (rules : Rules R) (pl : Plan) (w : ℕ) where
         let m' : Shelf R = record { reading = m.reading; link = m.link; job = updated m.job p rests; left = m.left } in
         let F' : Fits rules.blank pl (rules.means t) m.reading m.link (updated m.job p rests) =
         subst (λ (x : Meaning R). Fits rules.blank pl x m.reading m.link (updated m.job p rests)) (sym e_m) (rest_again rules.blank pl M m.reading m.link m.job p in_p ok.fits) in
-        let rest : activity_of (rules.means t) p ≡ idle = subst (DoesAs pl p (m.link p) (activity_of (rules.means t) p)) (updated_same m.job p rests) (F'.activities p in_p) in
+        let rest : activity_of (rules.means t) p ≡ idle = does_at F' p rests in_p (updated_same m.job p rests) in
         let e_s : said_of (rules.answer s p) ≡ some j.1 = ap said_of (e_a ∙ j.3) ∙ said_back j.1 in
         record {
           channel = none;
           then = m';
           turn = subst (λ (x : Option Said). Turn w m p none x m') (sym e_s) (turn_end j.0 j.1 j.2);
           shelved = close m' F' (λ q ne. updated_other m.job p _ q ne) (λ q ne h b. bound q ne h b) (λ b. absurd (b rest));
-          puts = λ c e. absurd (cc);
+          puts = λ c e. absurd cc;
         }
       where
         bound : (q : ℕ) → q ≢ p → q < pl.parties → activity_of M q ≢ idle → rules.left t q ≤ suc (m.left q)
