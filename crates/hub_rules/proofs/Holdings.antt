@@ -21,11 +21,11 @@ use Rattle.hub_rules.specs.declared.parts.Progress.{Progress}
 use Rattle.hub_rules.specs.declared.parts.Progress.TheVariants.{Run, Done}
 use Rattle.hub_rules.specs.Hub.{Call, Amendment, Picture, Turn, Release, Look, Hub, is_free, party_of, tests_of, after, granted, turn_answer, looked, after_all, made_on}
 use Rattle.hub_rules.specs.Law.{call_at, AcceptedAt, Empties, HoldingsStay}
-use Rattle.hub_rules.proofs.Match.{task_of, DoesAs, Matches}
+use Rattle.hub_rules.proofs.Match.{task_of, Matches, does_at, link_is}
 use Rattle.hub_rules.proofs.Turning.{job_idle}
 use Rattle.hub_rules.proofs.Stages.{free_from, task_free}
 use Rattle.hub_rules.proofs.Hearing.{order_event, turn_event, release_event, event_of}
-use Rattle.hub_rules.proofs.Stepping.{stepped}
+use Rattle.hub_rules.proofs.Stepping.{look_accepted, stepped}
 use Rattle.hub_rules.proofs.Running.{plan, range, runs}
 
 -- ** in the model
@@ -150,45 +150,29 @@ module _ {R : Type 0} (kind : KindOf R) (rules : Rules R) (pl : Plan) (w : ℕ) 
     abbrev link_here : Link R
     link_here = link_at (rules.means x.shelf) (flat (rules.plan x.shelf) p i)
 
-    link_is : p < pl.parties → i < pl.links → link_here ≡ h.shelf.link p i
-    link_is in_p in_i = ap (λ (z : Plan). link_at (rules.means x.shelf) (flat z p i)) mt.shelved.plan ∙ mt.shelved.fits.links p i in_p in_i
-
     look_holds : looked kind rules x p i ≡ accepted r → Holds h
     look_holds e =
         let t = accepted_passed (tests_of kind rules x (Look p i)) (reading_on rules.blank link_here) r (sym e) in
         let a = t.0 in
         let b = and_parts (is_free (party_of kind rules x p)) (is_idle (activity_of (rules.means x.shelf) p)) a.1.0 in
         let e_p = mt.shelved.plan in
-        let in_p : p < pl.parties = subst (λ (z : Plan). p < z.parties) e_p (ltb-true _ _ a.0) in
-        let in_i : i < pl.links = subst (λ (z : Plan). i < z.links) e_p (ltb-true _ _ a.1.1.0) in
+        let in_p : p < pl.parties = rw e_p at (ltb-true p (rules.plan x.shelf).parties a.0) in
+        let in_i : i < pl.links = rw e_p at (ltb-true i (rules.plan x.shelf).links a.1.1.0) in
+        let e_l = link_is mt.shelved p i in_p in_i in
         record {
           in_p = in_p;
           in_i = in_i;
           is_free = mt.tasks p ∙ ap task_of (free_from (party_of kind rules x p) b.0);
           is_idle = job_idle pl p (h.shelf.link p) (activity_of (rules.means x.shelf) p) (h.shelf.job p) (mt.shelved.fits.activities p in_p) (idle_is _ b.1);
-          shows = link_shows (h.shelf.link p i) (subst (λ (l : Link R). not (is_vacant l) ≡ true) (link_is in_p in_i) a.1.1.1.0)
-              (subst (λ (l : Link R). r ≡ reading_on rules.blank l) (link_is in_p in_i) t.1);
+          shows = link_shows (h.shelf.link p i) (rw (← e_l) a.1.1.1.0) (rw (← e_l) t.1);
         }
 
     holds_look : Holds h → looked kind rules x p i ≡ accepted r
     holds_look H =
-        let e_p = mt.shelved.plan in
-        let e_l = link_is H.in_p H.in_i in
         let full = link_full (h.shelf.link p i) H.shows in
-        let rest : activity_of (rules.means x.shelf) p ≡ idle = subst (DoesAs pl p (h.shelf.link p) (activity_of (rules.means x.shelf) p)) H.is_idle (mt.shelved.fits.activities p H.in_p) in
-        let e_f : is_free (party_of kind rules x p) && is_idle (activity_of (rules.means x.shelf) p) ≡ true =
-        ap (λ (z : Party). is_free z && is_idle (activity_of (rules.means x.shelf) p)) (task_free (party_of kind rules x p) (sym (mt.tasks p) ∙ H.is_free)) ∙ ap is_idle rest in
-        passes (tests_of kind rules x (Look p i)) (reading_on rules.blank link_here) (
-          lt-ltb _ _ (subst (λ (z : Plan). p < z.parties) (sym e_p) H.in_p),
-          (
-            e_f,
-            (
-              lt-ltb _ _ (subst (λ (z : Plan). i < z.links) (sym e_p) H.in_i),
-              (ap (λ (z : Link R). not (is_vacant z)) e_l ∙ full.0, tt),
-            ),
-          ),
-        )
-        ∙ ap accepted (ap (reading_on rules.blank) e_l ∙ full.1)
+        look_accepted kind rules x p i (h.shelf.link p i) (rw mt.shelved.plan H.in_p) (rw mt.shelved.plan H.in_i) (task_free _ (sym (mt.tasks p) ∙ H.is_free)) (does_at mt.shelved.fits p rests H.in_p H.is_idle)
+        (link_is mt.shelved p i H.in_p H.in_i) full.0
+        ∙ ap accepted full.1
 
   module _ (plan : N.Plan) (range : InRange pl) (same_parties : plan.parties ≡ pl.parties) (same_links : plan.links ≡ pl.links)
       (same_channels : plan.channels ≡ pl.channels) (same_patience : w ≡ plan.patience) where
