@@ -22,10 +22,10 @@ pub record WaitsToStore {R : Type 0} (M : Meaning R) (p c : ℕ) : Type 0 where
 module _ {R : Type 0} (blank : R) (pl : Plan) where
   -- a party's part depends on its links only where it waits, and there only on their not being empty
   pub does_of : (p : ℕ) {l l' : ℕ → Link R} {d d' : Activity R} (J : Job R) → l ≡ l' → d ≡ d' → DoesAs pl p l d J → DoesAs pl p l' d' J
-  does_of p {l} {l'} {d} {d'} J e f h = subst (λ (x : ℕ → Link R). DoesAs pl p x d' J) e (subst (λ (x : Activity R). DoesAs pl p l x J) f h)
+  does_of p J e f h = rw (← e, ← f) h
 
   pub does_job : (p : ℕ) (l : ℕ → Link R) (d : Activity R) {J J' : Job R} → J ≡ J' → DoesAs pl p l d J → DoesAs pl p l d J'
-  does_job p l d e h = subst (DoesAs pl p l d) e h
+  does_job p l d e h = rw (← e) h
 
   -- party p does something else; its links may have changed, those of the others not
   pub redo : (M : Meaning R) (link link' : ℕ → ℕ → Link R) (job : ℕ → Job R) (p : ℕ) (d : Activity R) (J : Job R) (ds : List (Activity R))
@@ -57,17 +57,17 @@ module _ {R : Type 0} (blank : R) (pl : Plan) where
       (at_party i (λ j. p < pl.parties → j < pl.links → get_or (set M.links (flat pl p i) l) (flat pl p j) vacant ≡ set_link link p i l p j)
       (λ a b. get_or-set_same M.links (flat pl p i) l vacant (let e = sz.links in let k = flat_below pl p i in_p in_i in omega arith) ∙ (sym (here_same)))
       (λ j ne a b. get_or-set_other M.links (flat pl p i) (flat pl p j) l vacant (flat_other pl p i j ne) ∙ (h p j a b ∙ (sym (here_other j ne)))))
-      (λ q ne j a b. get_or-set_other M.links (flat pl p i) (flat pl q j) l vacant (flat_apart pl p q i j ne in_i b) ∙ (h q j a b ∙ (sym (ap (λ (f : ℕ → Link R). f j) (updated_other link p (updated (link p) i l) q ne)))))
+      (λ q ne j a b. get_or-set_other M.links (flat pl p i) (flat pl q j) l vacant (flat_apart pl p q i j ne in_i b) ∙ (h q j a b ∙ (rw (updated_other link p (updated (link p) i l) q ne) refl)))
     where
       here_same : set_link link p i l p i ≡ l
-      here_same = ap (λ (f : ℕ → Link R). f i) (updated_same link p (updated (link p) i l)) ∙ updated_same (link p) i l
+      here_same = rw (updated_same, updated_same) refl
 
       here_other : (j : ℕ) → j ≢ i → set_link link p i l p j ≡ link p j
-      here_other j ne = ap (λ (f : ℕ → Link R). f j) (updated_same link p (updated (link p) i l)) ∙ updated_other (link p) i l j ne
+      here_other j ne = rw updated_same (updated_other (link p) i l j ne)
 
   -- other parties' links are as they were
   pub relink_ready : (link : ℕ → ℕ → Link R) (p i : ℕ) (l : Link R) (q : ℕ) → q ≢ p → (j : ℕ) → Ready (link q j) → Ready (set_link link p i l q j)
-  relink_ready link p i l q ne j r = subst Ready (sym (ap (λ (f : ℕ → Link R). f j) (updated_other link p (updated (link p) i l) q ne))) r
+  relink_ready link p i l q ne j r = rw (updated_other link p (updated (link p) i l) q ne) r
 
   -- whether the operation is a put on a live link, and then of which channel
   abbrev pub StoresOn : Meaning R → ℕ → Option ℕ → Type 0

@@ -1,7 +1,9 @@
 -- What follows from the shelf's answer, exactly and in the model; lists that pass the hub's tests.
 use Rattle.std.proofs.Common.{◌≡◌, ℕ, zero, suc, ◌+◌, ◌<◌, Bool, true, false, cond, not, ◌||◌, eqb, ltb, ◌≢◌, List, [], ◌∷◌, length, get_or, refl, add-one, arith}
 use mathlib.Core.Option.{none, some}
-use Rattle.std.proofs.lemmas.Bool.{ltb-true, ltb-false, eqb-false, not-true, and_parts, or_parts, cond-true, cond-false}
+use Rattle.std.proofs.lemmas.Bool.{both_ways, ltb-true, ltb-false, eq-eqb, not-true, and_parts, true_from_ne_false, cond-true, cond-false}
+use Rattle.std.specs.List.{list_all}
+use Rattle.std.proofs.lemmas.List.Folds.{list_all_at, list_any_at}
 use Rattle.shelf.specs.declared.answer.Answer.TheVariants.{Run}
 use Rattle.history.specs.Board.{picture}
 use Rattle.history.proofs.Shelf.{Said, taken, stored as put_stored, missed, live, broken}
@@ -11,7 +13,7 @@ use Rattle.arrayvec.specs.ArrayVec.{ArrayVec}
 use Rattle.hub_rules.specs.declared.parts.Party.{Party}
 use Rattle.hub_rules.specs.declared.parts.Party.TheVariants.{Idle, AmendmentTake, AmendmentPut, PictureTake, PictureCheck}
 use Rattle.hub_rules.specs.declared.parts.Progress.TheVariants as progress
-use Rattle.hub_rules.specs.Hub.{all_below, is_among, none_twice, is_free, progress_of, next}
+use Rattle.hub_rules.specs.Hub.{none_twice, is_free, progress_of, next}
 use Rattle.hub_rules.proofs.Match.{answer_of, task_of, order_of, stage_of}
 
 -- what an operation and the shelf's answer lead to: the end, or another stage
@@ -88,19 +90,11 @@ runs_from (PictureCheck l i) e = record { task = refl; progress = refl }
 
 -- ** lists
 
-pub below_at : (n : ℕ) (cs : List ℕ) → all_below n cs ≡ true → (i : ℕ) → i < length cs → get_or cs i 0 < n
-below_at n [] e i h = absurd (omega arith)
-below_at n (c ∷ cs) e zero h = ltb-true c n (and_parts _ _ e).0
-below_at n (c ∷ cs) e (suc i) h = below_at n cs (and_parts _ _ e).1 i (omega arith)
-
-not_among : (c : ℕ) (cs : List ℕ) → is_among c cs ≡ false → (i : ℕ) → i < length cs → c ≢ get_or cs i 0
-not_among c [] e i h k = omega arith
-not_among c (x ∷ xs) e zero h k = eqb-false c x (or_parts _ _ e).0 k
-not_among c (x ∷ xs) e (suc i) h k = not_among c xs (or_parts _ _ e).1 i (omega arith) k
+pub below_at : (n : ℕ) (cs : List ℕ) → list_all (λ c. ltb c n) cs ≡ true → (i : ℕ) → i < length cs → get_or cs i 0 < n
+below_at n cs e i h = ltb-true _ _ (true_from_ne_false _ (λ f. both_ways _ (list_all_at (λ c. ltb c n) cs i 0 h f) e))
 
 pub apart_at : (cs : List ℕ) → none_twice cs ≡ true → (i j : ℕ) → i < j → j < length cs → get_or cs i 0 ≢ get_or cs j 0
 apart_at [] e i j h l k = omega arith
-apart_at (c ∷ cs) e zero zero h l k = omega arith
-apart_at (c ∷ cs) e zero (suc j) h l k = not_among c cs (not-true _ (and_parts _ _ e).0) j (omega arith) k
-apart_at (c ∷ cs) e (suc i) zero h l k = omega arith
+apart_at (c ∷ cs) e i zero h l k = omega arith
+apart_at (c ∷ cs) e zero (suc j) h l k = both_ways _ (not-true _ (and_parts _ _ e).0) (list_any_at (eqb c) cs j 0 (omega arith) (eq-eqb c _ k))
 apart_at (c ∷ cs) e (suc i) (suc j) h l k = apart_at cs (and_parts _ _ e).1 i j (omega arith) (omega arith) k

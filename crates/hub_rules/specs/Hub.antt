@@ -1,6 +1,7 @@
 -- The exact rules of the hub, over any shelf's rules and any kind of reading: when a call is refused, what it answers,
 -- and the hub then. They are total, since a hub may be made on any shelf.
-use Rattle.std.specs.Prelude.{ℕ, zero, suc, ◌+◌, Bool, true, false, cond, not, ◌&&◌, ◌||◌, List, [], ◌∷◌, length, replicate, ◌==◌, nat_lt, slice_index, slice_index_or, slice_set}
+use Rattle.std.specs.Prelude.{ℕ, zero, suc, ◌+◌, Bool, true, false, cond, not, ◌&&◌, List, [], ◌∷◌, length, replicate, ◌==◌, nat_lt, slice_index, slice_index_or, slice_set}
+use Rattle.std.specs.List.{list_all, list_any}
 use Rattle.plan.specs.Refusals.{Outcome, accepted, refused, Test, unless_refused}
 use Rattle.plan.specs.Plans.{between}
 use Rattle.plan.specs.declared.check.Plan.{Plan}
@@ -34,17 +35,10 @@ made_on rules s = record { shelf = s; table = replicate (rules.plan s).parties I
 
 -- ** lists of channels
 
-abbrev pub all_below : ℕ → List ℕ → Bool
-all_below n [] = true
-all_below n (c ∷ cs) = nat_lt c n && all_below n cs
-
-abbrev pub is_among : ℕ → List ℕ → Bool
-is_among b [] = false
-is_among b (c ∷ cs) = b == c || is_among b cs
-
+-- no channel stands twice
 abbrev pub none_twice : List ℕ → Bool
 none_twice [] = true
-none_twice (c ∷ cs) = not (is_among c cs) && none_twice cs
+none_twice (c ∷ cs) = not (list_any (λ d. c == d) cs) && none_twice cs
 
 -- ** a party's operation
 
@@ -148,7 +142,7 @@ module _ {R : Type 0} (kind : KindOf R) (rules : Rules R) where
     has_length cs = record { number = 5; passes = between 1 plan_of.links (length cs) }
 
     abbrev pub has_channels : List ℕ → Test
-    has_channels cs = record { number = 6; passes = all_below plan_of.channels cs }
+    has_channels cs = record { number = 6; passes = list_all (λ c. nat_lt c plan_of.channels) cs }
 
     abbrev pub lists_once : List ℕ → Test
     lists_once cs = record { number = 7; passes = none_twice cs }
