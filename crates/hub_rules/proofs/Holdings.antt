@@ -31,7 +31,7 @@ use Rattle.hub_rules.proofs.Running.{plan, range, runs}
 -- ** in the model
 
 not_busy : (p : ℕ) (task : ℕ → Task) (q : ℕ) (o : Order) (st : Stage) → task p ≡ free → task q ≡ doing o st → p ≢ q
-not_busy p task q o st a b e = let c = ap task e in cc
+not_busy p task q o st a b e = cc
 
 module _ {R : Type 0} where
   -- what a look at a link shows, if anything

@@ -112,7 +112,7 @@ module _ {R : Type 0} (kind : KindOf R) (rules : Rules R) (pl : Plan) (w : ℕ) 
         sizes = record { readings = ok.fits.sizes.readings; links = ok.fits.sizes.links; activities = length-set M.activities p _ ∙ ok.fits.sizes.activities };
         readings = ok.fits.readings;
         links = ok.fits.links;
-        activities = redo rules.blank pl M m.link m.link m.job p (waits (flat_operation pl p a)) (awaits a) M.activities in_p ok.fits.sizes.activities (λ q ne h. ok.fits.activities q h) (λ q ne i r. r) (refl, act);
+        activities = redo rules.blank pl m.link m.link m.job p (waits (flat_operation pl p a)) (awaits a) M.activities in_p ok.fits.sizes.activities (λ q ne h. ok.fits.activities q h) (λ q ne i r. r) (refl, act);
       }
 
       taking_link : (i c : ℕ) → i < pl.links → c < pl.channels → Fits rules.blank pl (does (linking M (flat pl p i) vacant) p (waits (take (flat pl p i) c))) m.reading (set_link m.link p i vacant) (updated m.job p (awaits (take i c)))
@@ -120,7 +120,7 @@ module _ {R : Type 0} (kind : KindOf R) (rules : Rules R) (pl : Plan) (w : ℕ) 
         sizes = record { readings = ok.fits.sizes.readings; links = length-set M.links (flat pl p i) vacant ∙ ok.fits.sizes.links; activities = length-set M.activities p _ ∙ ok.fits.sizes.activities };
         readings = ok.fits.readings;
         links = relink rules.blank pl M m.link p i vacant ok.fits.sizes in_p in_i ok.fits.links;
-        activities = redo rules.blank pl M m.link (set_link m.link p i vacant) m.job p (waits (take (flat pl p i) c)) (awaits (take i c)) M.activities in_p ok.fits.sizes.activities (λ q ne h. ok.fits.activities q h)
+        activities = redo rules.blank pl m.link (set_link m.link p i vacant) m.job p (waits (take (flat pl p i) c)) (awaits (take i c)) M.activities in_p ok.fits.sizes.activities (λ q ne h. ok.fits.activities q h)
             (relink_ready rules.blank pl m.link p i vacant) (refl, (in_i, in_c));
       }
 

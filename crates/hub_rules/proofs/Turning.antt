@@ -34,22 +34,22 @@ module _ {R : Type 0} (pl : Plan) where
   -- which job it is, from what the party does
   pub job_waits : (p : ℕ) (l : ℕ → Link R) (d : Activity R) (o : Operation R) (J : Job R) → DoesAs pl p l d J → d ≡ waits o → (a : Operation R) × (J ≡ awaits a) × (o ≡ flat_operation pl p a)
   job_waits p l d o rests h e = absurd cc
-  job_waits p l d o (awaits a) h e = (a, refl, let f = h.0 in cc)
+  job_waits p l d o (awaits a) h e = (a, refl, cc h.0)
   job_waits p l d o (forced a sd) h e = absurd cc
 
   pub job_forced : (p : ℕ) (l : ℕ → Link R) (d : Activity R) (x : Answer) (J : Job R) → DoesAs pl p l d J → d ≡ in_force x → (a : Operation R) × (sd : Said) × (J ≡ forced a sd) × (x ≡ answer_of sd)
   job_forced p l d x rests h e = absurd cc
-  job_forced p l d x (awaits a) h e = absurd (let f = h.0 in cc)
+  job_forced p l d x (awaits a) h e = absurd (cc h.0)
   job_forced p l d x (forced a sd) h e = (a, sd, refl, cc (h, e))
 
   pub job_idle : (p : ℕ) (l : ℕ → Link R) (d : Activity R) (J : Job R) → DoesAs pl p l d J → d ≡ idle → J ≡ rests
   job_idle p l d rests h e = refl
-  job_idle p l d (awaits a) h e = absurd (let f = h.0 in cc)
+  job_idle p l d (awaits a) h e = absurd (cc h.0)
   job_idle p l d (forced a sd) h e = absurd cc
 
   pub busy_back : (p : ℕ) (l l' : ℕ → Link R) (d d' : Activity R) (J : Job R) → DoesAs pl p l d J → DoesAs pl p l' d' J → d' ≢ idle → d ≢ idle
   busy_back p l l' d d' rests h h' n e = n h'
-  busy_back p l l' d d' (awaits a) h h' n e = let f = h.0 in cc
+  busy_back p l l' d d' (awaits a) h h' n e = cc h.0
   busy_back p l l' d d' (forced a sd) h h' n e = cc
 
   -- the channel of a waiting operation
@@ -120,10 +120,7 @@ module _ {R : Type 0} (rules : Rules R) (pl : Plan) (w : ℕ) where
     lefts (some c) put_on = record { left' = λ q. (pick q).0; others = λ q ne. (pick q).1 ne; bound = λ q ne h b. (pick q).2 ne h b }
       where
         same_channel : (c' : ℕ) → WaitsToStore M p c' → c' ≡ c
-        same_channel c' z =
-            let one : z.link ≡ put_on.link = (let e1 = z.puts in let e2 = put_on.puts in cc (e1, e2)) in
-            let l1 : link_at M put_on.link ≡ holds c' z.seen true = ap (link_at M) (sym one) ∙ z.alive in
-            let l2 = put_on.alive in cc (l1, l2)
+        same_channel c' z = cc
 
         by_stays : (q : ℕ) → q < pl.parties → (rules.left t q ≤ rules.left s q) ⊎ ((c' : ℕ) × Stores M (rules.means t) p c' × is_on M (activity_of M q) c')
             → Pick c q
@@ -203,6 +200,10 @@ module _ {R : Type 0} (rules : Rules R) (pl : Plan) (w : ℕ) where
             go (inl l) = let k = ok.left q h b in omega arith
             go (inr z) = absurd (z.1.comes.waits_no_more (ap (λ (x : Meaning R). activity_of x p) e_m ∙ z.1.comes.waited))
 
+    others_updated : (f : Option ℕ) (l : ℕ → ℕ) (n : ℕ) → Others w m p f l → Others w m p f (updated l p n)
+    others_updated none l n o = λ q ne. rw (updated_other l p n q ne) (o q ne)
+    others_updated (some c) l n o = λ q ne. rw (updated_other l p n q ne) (o q ne)
+
     -- the operation in force
     module _ (o : Operation R) (e_d : activity_of M p ≡ waits o) where
       act : (a : Operation R) × (m.job p ≡ awaits a) × (o ≡ flat_operation pl p a)
@@ -237,10 +238,6 @@ module _ {R : Type 0} (rules : Rules R) (pl : Plan) (w : ℕ) where
                 (λ b. let e = updated_same ls.left' p n in omega arith);
             puts = comes_to_store (in_force (answer_of G.said)) e_now (λ o' k. cc) G.channel G.stored_on;
           }
-        where
-          others_updated : (f : Option ℕ) (l : ℕ → ℕ) (n : ℕ) → Others w m p f l → Others w m p f (updated l p n)
-          others_updated none l n o = λ q ne. updated_other l p n q ne ∙ o q ne
-          others_updated (some c) l n o = λ q ne. subst (λ (k : ℕ). (k ≡ m.left q) ⊎ ((k ≤ w) × On (m.link q) (m.job q) c)) (sym (updated_other l p n q ne)) (o q ne)
 
       come_end : (a : Answer) → rules.answer s p ≡ a → activity_of (brought rules.blank M p o) p ≡ in_force a → rules.means t ≡ does (brought rules.blank M p o) p idle → TurnMatched s m p
       come_end a e_a e_f e_m =
@@ -264,10 +261,6 @@ module _ {R : Type 0} (rules : Rules R) (pl : Plan) (w : ℕ) where
                 (λ b. absurd (b rest));
             puts = comes_to_store idle rest (λ o' k. cc) G.channel G.stored_on;
           }
-        where
-          others_updated : (f : Option ℕ) (l : ℕ → ℕ) (n : ℕ) → Others w m p f l → Others w m p f (updated l p n)
-          others_updated none l n o = λ q ne. updated_other l p n q ne ∙ o q ne
-          others_updated (some c) l n o = λ q ne. subst (λ (k : ℕ). (k ≡ m.left q) ⊎ ((k ≤ w) × On (m.link q) (m.job q) c)) (sym (updated_other l p n q ne)) (o q ne)
 
     -- the answer handed over
     end : (a : Answer) → rules.answer s p ≡ a → activity_of M p ≡ in_force a → rules.means t ≡ does M p idle → TurnMatched s m p
