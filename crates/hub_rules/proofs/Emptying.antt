@@ -45,7 +45,7 @@ module _ {R : Type 0} (kind : KindOf R) (rules : Rules R) (pl : Plan) (w : ℕ) 
       let e_m : rules.means (rules.dropped t p (flat (rules.plan t) p n)) ≡ linking (rules.means t) (flat pl p n) vacant = law.1 ∙ rw E.plan refl in
       let links_are : (rules.means (rules.dropped t p (flat (rules.plan t) p n))).links ≡ set (rules.means t).links (flat pl p n) vacant = ap (λ (x : Meaning R). x.links) e_m in
       let tests : AllByRecursion Passed (C.tests_of (rules.plan t) (rules.means t) (C.Drop p n)) = (lt-ltb _ _ in_plan, (ap is_idle free', (lt-ltb _ _ in_links, tt))) in
-      subst (Emptied (suc n)) (sym (ap (C.leaves t) (passes (C.tests_of (rules.plan t) (rules.means t) (C.Drop p n)) (rules.dropped t p (flat (rules.plan t) p n)) tests)))
+      rw (ap (C.leaves t) (passes (C.tests_of (rules.plan t) (rules.means t) (C.Drop p n)) (rules.dropped t p (flat (rules.plan t) p n)) tests))
       (record {
         sound = law.0.sound';
         plan = law.0.plan' ∙ E.plan;

@@ -116,7 +116,7 @@ module _ {R : Type 0} (blank : R) (pl : Plan) where
           reading' = updated m.reading c v;
           link' = λ q j. break_on c (m.link q j);
           forces = force_put i c v r e;
-          fits = subst (λ (t : Link R). Fits blank pl (put_on M p v t) (updated m.reading c v) (λ q j. break_on c (m.link q j)) (updated m.job p (forced (put i v) stored))) (sym e_l)
+          fits = rw e_l
               (record {
                 sizes = record { readings = length-set M.readings c v ∙ F.sizes.readings; links = length-map M.links (break_on c) ∙ F.sizes.links; activities = size_activities (in_force (answer_of stored)) };
                 readings = at_party c (λ d. d < pl.channels → get_or (set M.readings c v) d blank ≡ updated m.reading c v d)
@@ -136,7 +136,7 @@ module _ {R : Type 0} (blank : R) (pl : Plan) where
           reading' = m.reading;
           link' = m.link;
           forces = force_miss i c v r e;
-          fits = subst (λ (t : Link R). Fits blank pl (put_on M p v t) m.reading m.link (updated m.job p (forced (put i v) missed))) (sym e_l) (told (put i v) missed);
+          fits = rw e_l (told (put i v) missed);
           stored_on = λ c' z. broken_put c' z e_l;
         }
       where
@@ -152,7 +152,7 @@ module _ {R : Type 0} (blank : R) (pl : Plan) where
           reading' = m.reading;
           link' = m.link;
           forces = force_live i c r e;
-          fits = subst (λ (t : Link R). Fits blank pl (does M p (in_force (verdict t))) m.reading m.link (updated m.job p (forced (check i) live))) (sym e_l) (told (check i) live);
+          fits = rw e_l (told (check i) live);
           stored_on = λ c' z. cc;
         }
     check_force i e_d in_i c r false e =
@@ -163,7 +163,7 @@ module _ {R : Type 0} (blank : R) (pl : Plan) where
           reading' = m.reading;
           link' = m.link;
           forces = force_broken i c r e;
-          fits = subst (λ (t : Link R). Fits blank pl (does M p (in_force (verdict t))) m.reading m.link (updated m.job p (forced (check i) broken))) (sym e_l) (told (check i) broken);
+          fits = rw e_l (told (check i) broken);
           stored_on = λ c' z. cc;
         }
 

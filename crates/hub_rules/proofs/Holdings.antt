@@ -182,7 +182,7 @@ module _ {R : Type 0} (kind : KindOf R) (rules : Rules R) (pl : Plan) (w : ℕ) 
     stays x h before past mt [] H sp = holds_look x h mt H
     stays x h before past mt (k ∷ ks) H sp =
         let z = stepped kind rules plan pl w range same_parties same_links same_channels same_patience x h mt before past k in
-        let nb : NotBy p z.heard = subst (NotBy p) (sym z.told.is) (event_not kind rules p x k z.told.forces z.told.answer (sp 0 (omega arith))) in
+        let nb : NotBy p z.heard = rw z.told.is (event_not kind rules p x k z.told.forces z.told.answer (sp 0 (omega arith))) in
         let same = step_same p i rules.blank kind.amended plan h H.is_free nb z.step in
         stays (after kind rules x k) z.then (before ++ (z.heard ∷ [])) (after_that z.heard z.then past z.step) z.matches ks
         (record {

@@ -47,7 +47,7 @@ module _ {R : Type 0} (kind : KindOf R) (rules : Rules R) where
       pub matches : Matches rules pl w (after_all kind rules x ks) hub
 
     pub ran : (x : Hub rules) (h : N.Hub R) (before : List (N.Event R)) → Past rules.blank kind.amended plan before h → Matches rules pl w x h → (ks : List Call) → Ran x ks before
-    ran x h before past mt [] = record { log = []; hub = h; heard = tt; past = subst (λ (l : List (N.Event R)). Past rules.blank kind.amended plan l h) (sym (append-nil before)) past; matches = mt }
+    ran x h before past mt [] = record { log = []; hub = h; heard = tt; past = rw (append-nil before) past; matches = mt }
     ran x h before past mt (k ∷ ks) =
         let z = stepped kind rules plan pl w range same_parties same_links same_channels same_patience x h mt before past k in
         let y = ran (after kind rules x k) z.then (before ++ (z.heard ∷ [])) (after_that z.heard z.then past z.step) z.matches ks in
@@ -55,7 +55,7 @@ module _ {R : Type 0} (kind : KindOf R) (rules : Rules R) where
           log = z.heard ∷ y.log;
           hub = y.hub;
           heard = (z.told, y.heard);
-          past = subst (λ (l : List (N.Event R)). Past rules.blank kind.amended plan l y.hub) (append_assoc before (z.heard ∷ []) y.log) y.past;
+          past = rw (← append_assoc before (z.heard ∷ []) y.log) y.past;
           matches = y.matches;
         }
 

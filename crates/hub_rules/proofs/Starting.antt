@@ -88,8 +88,8 @@ module _ {R : Type 0} (kind : KindOf R) (rules : Rules R) (pl : Plan) (w : ℕ) 
       begin y a link' t e W St k F = record {
         then = record { reading = m.reading; link = link'; job = updated m.job p (awaits a); left = updated m.left p (rules.left t p - 1) };
         begins = begun_now a (rules.left t p - 1) link' idle_job W St (within t k);
-        shelved = subst (λ (x : rules.State). Shelved rules pl w x (record { reading = m.reading; link = link'; job = updated m.job p (awaits a); left = updated m.left p (rules.left t p - 1) })) (sym e) (started_shelved t a link' k F);
-        busy = subst (λ (x : rules.State). activity_of (rules.means x) p ≢ idle) (sym e) (busy_now t a link' F);
+        shelved = rw e (started_shelved t a link' k F);
+        busy = rw e (busy_now t a link' F);
       }
 
       -- what the hub starts, where the shelf accepts it
@@ -125,7 +125,7 @@ module _ {R : Type 0} (kind : KindOf R) (rules : Rules R) (pl : Plan) (w : ℕ) 
       }
 
       fits_at : {X Y : Meaning R} {link' : ℕ → ℕ → Link R} {job' : ℕ → Job R} → X ≡ Y → Fits rules.blank pl Y m.reading link' job' → Fits rules.blank pl X m.reading link' job'
-      fits_at {X} {Y} {link'} {job'} e F = subst (λ (x : Meaning R). Fits rules.blank pl x m.reading link' job') (sym e) F
+      fits_at {X} {Y} {link'} {job'} e F = rw e F
 
       take_tests : (i c : ℕ) → i < pl.links → c < pl.channels → AllByRecursion Passed (C.tests_of (rules.plan s) M (C.Take p i c))
       take_tests i c in_i in_c = (lt-ltb _ _ in_plan, (idle_true, (lt-ltb _ _ (in_links i in_i), (lt-ltb _ _ (in_channels c in_c), tt))))
@@ -186,8 +186,8 @@ module _ {R : Type 0} (kind : KindOf R) (rules : Rules R) (pl : Plan) (w : ℕ) 
           record {
             then = m;
             begins = begun_before (λ k. busy (does_at ok.fits p rests in_p k));
-            shelved = subst (λ (x : rules.State). Shelved rules pl w x m) (sym (running_stays y e)) ok;
-            busy = subst (λ (x : rules.State). activity_of (rules.means x) p ≢ idle) (sym (running_stays y e)) busy;
+            shelved = rw (running_stays y e) ok;
+            busy = rw (running_stays y e) busy;
           }
 
       by_activity : (d : Activity R) → activity_of M p ≡ d → (y : Party) → CanBegin plan (m.link p) (order_of y) (stage_of y) → BegunMatched s m p y

@@ -226,16 +226,16 @@ module _ {R : Type 0} (kind : KindOf R) (rules : Rules R) (plan : N.Plan) (pl : 
 
         -- by where the answer leads
         led : (sd : Said) → turn_answer kind rules x p ≡ accepted (progress_of (next y (answer_of sd))) → ModelTurn plan.patience B.then p f (some sd) n → Leads y sd → Stepped x h (Turn p) (then_at (next y (answer_of sd)))
-        led sd e_a t (to_end nx e) = subst (λ (v : Party). Stepped x h (Turn p) (then_at v)) (sym e) (finished sd (e_a ∙ ap (λ (v : Party). accepted (progress_of v)) e) t nx)
+        led sd e_a t (to_end nx e) = rw e (finished sd (e_a ∙ ap (λ (v : Party). accepted (progress_of v)) e) t nx)
         led sd e_a t (to_stage v st nx e e_v e_r) =
-            subst (λ (v : Party). Stepped x h (Turn p) (then_at v)) (sym e) (went_on sd v st (e_a ∙ (ap (λ (v : Party). accepted (progress_of v)) e ∙ ap accepted e_r)) e_v t nx)
+            rw e (went_on sd v st (e_a ∙ (ap (λ (v : Party). accepted (progress_of v)) e ∙ ap accepted e_r)) e_v t nx)
 
         said : (sd : Said) → turn_answer kind rules x p ≡ accepted (progress_of (next y (answer_of sd))) → ModelTurn plan.patience B.then p f (some sd) n → Stepped x h (Turn p) (then_at (next y (answer_of sd)))
         said sd e_a t = led sd e_a t (leads y sd (past_says rules.blank kind.amended plan log h past p (order_of y) (stage_of y) hub_task begins_at t))
 
         by_answer : (a : Answer) → turn_answer kind rules x p ≡ accepted (progress_of (next y a)) → ModelTurn plan.patience B.then p f (said_of a) n → Stepped x h (Turn p) (then_at (next y a))
         by_answer answers.Run e_a t =
-            subst (λ (v : Party). Stepped x h (Turn p) (then_at v)) (sym (next_run y)) (ran (e_a ∙ (ap (λ (v : Party). accepted (progress_of v)) (next_run y) ∙ ap accepted running.progress)) t)
+            rw (next_run y) (ran (e_a ∙ (ap (λ (v : Party). accepted (progress_of v)) (next_run y) ∙ ap accepted running.progress)) t)
         by_answer answers.Taken e_a t = said taken e_a t
         by_answer answers.Stored e_a t = said put_stored e_a t
         by_answer answers.Missed e_a t = said missed e_a t
@@ -262,7 +262,7 @@ module _ {R : Type 0} (kind : KindOf R) (rules : Rules R) (plan : N.Plan) (pl : 
 
       turn_step : Stepped x h (Turn p) (turned kind rules x p (party_of kind rules x p))
       turn_step =
-          subst (Stepped x h (Turn p)) (sym hub_turned)
+          rw hub_turned
           (by_answer T.then T.channel T.shelved T.puts (rules.answer s p) hub_answers
           (subst (λ (z : ℕ). ModelTurn z B.then p T.channel (said_of (rules.answer s p)) T.then) same_patience T.turn))
 
@@ -307,7 +307,7 @@ module _ {R : Type 0} (kind : KindOf R) (rules : Rules R) (plan : N.Plan) (pl : 
     stepped k = by_way (ways (tests_of kind rules x k) (hub_after kind rules x k))
       where
         by_way : Ways (tests_of kind rules x k) (hub_after kind rules x k) → Stepped x h k (after kind rules x k)
-        by_way (all_pass t q) = subst (Stepped x h k) (sym (ap (leaves x) q)) (accepted_step k t)
+        by_way (all_pass t q) = rw (ap (leaves x) q) (accepted_step k t)
         by_way (one_refuses n q) =
-            subst (Stepped x h k) (sym (ap (leaves x) q))
+            rw (ap (leaves x) q)
             (record { heard = N.nothing; then = h; step = step_nothing; matches = mt; told = quiet kind rules x x k N.nothing (sym (refused_event kind rules x k n q)) })

@@ -59,9 +59,9 @@ module _ {R : Type 0} (pl : Plan) where
   act_on p M l (check i) c h ok o = (o.0, o.1, sym (h i ok.0) ∙ o.2)
 
   on_channel : (p : ℕ) (M : Meaning R) (l : ℕ → Link R) (d : Activity R) (J : Job R) (c : ℕ) → ((i : ℕ) → i < pl.links → link_at M (flat pl p i) ≡ l i) → DoesAs pl p l d J → is_on M d c → On l J c
-  on_channel p M l d rests c h D o = subst (λ (x : Activity R). is_on M x c) D o
-  on_channel p M l d (awaits a) c h D o = act_on p M l a c h D.1 (subst (λ (x : Activity R). is_on M x c) D.0 o)
-  on_channel p M l d (forced a sd) c h D o = absurd (subst (λ (x : Activity R). is_on M x c) D o)
+  on_channel p M l d rests c h D o = rw D at o
+  on_channel p M l d (awaits a) c h D o = act_on p M l a c h D.1 (rw D.0 at o)
+  on_channel p M l d (forced a sd) c h D o = absurd (rw D at o)
 
 module _ {R : Type 0} (rules : Rules R) (pl : Plan) (w : ℕ) where
   -- a turn of party p, in the model and exactly
@@ -89,7 +89,7 @@ module _ {R : Type 0} (rules : Rules R) (pl : Plan) (w : ℕ) where
     sound' = (rules.turns s p ok.sound (in_plan p in_p) busy).0
 
     most' : (q : ℕ) → q < pl.parties → rules.left t q ≤ w + 1
-    most' q h = subst (λ (n : ℕ). rules.left t q ≤ n + 1) ((rules.turns s p ok.sound (in_plan p in_p) busy).2 ∙ ok.patience) (rules.most t q sound' (in_plan' q h))
+    most' q h = rw (← ok.patience, ← (rules.turns s p ok.sound (in_plan p in_p) busy).2) (rules.most t q sound' (in_plan' q h))
 
     -- the party's own turns left fall where it goes on
     own_left : activity_of (rules.means t) p ≢ idle → rules.left t p - 1 < m.left p
@@ -130,7 +130,7 @@ module _ {R : Type 0} (rules : Rules R) (pl : Plan) (w : ℕ) where
           (λ ne. inr (
             let k = most' q h in omega arith,
             on_channel pl q M (m.link q) (activity_of M q) (m.job q) c (λ i l. ok.fits.links q i h l) (ok.fits.activities q h)
-                (subst (is_on M (activity_of M q)) (same_channel z.0 (waiting z.0 z.1)) z.2),
+                (rw (← same_channel z.0 (waiting z.0 z.1)) z.2),
           )),
           λ ne h' b. omega arith,
         )
@@ -172,7 +172,7 @@ module _ {R : Type 0} (rules : Rules R) (pl : Plan) (w : ℕ) where
 
     comes_to_store : (x : Activity R) → activity_of (rules.means t) p ≡ x → ((o : Operation R) → x ≡ waits o → ⊥) → (f : Option ℕ) → StoresOn rules.blank pl M p f → (c : ℕ) → f ≡ some c → Stores M (rules.means t) p c
     comes_to_store x e n none so c k = absurd cc
-    comes_to_store x e n (some d) so c k = moved c x e n (subst (WaitsToStore M p) (let q : d ≡ c = cc (k) in q) so)
+    comes_to_store x e n (some d) so c k = let q : d ≡ c = cc in moved c x e n (rw (← q) so)
 
     still : rules.answer s p ≡ Run → rules.means t ≡ M → TurnMatched s m p
     still e_a e_m =
@@ -181,10 +181,10 @@ module _ {R : Type 0} (rules : Rules R) (pl : Plan) (w : ℕ) where
         record {
           channel = none;
           then = record { reading = m.reading; link = m.link; job = m.job; left = updated m.left p n };
-          turn = subst (λ (a : Answer). Turn w m p none (said_of a) (record { reading = m.reading; link = m.link; job = m.job; left = updated m.left p n })) (sym e_a)
+          turn = rw e_a
               (turn_still n (own_left on) (λ e. busy (idle_rests e)));
           shelved = close (record { reading = m.reading; link = m.link; job = m.job; left = updated m.left p n })
-              (subst (λ (x : Meaning R). Fits rules.blank pl x m.reading m.link m.job) (sym e_m) ok.fits) (λ q ne. refl)
+              (rw e_m ok.fits) (λ q ne. refl)
               (λ q ne h b. let e = updated_other m.left p n q ne in let k = others q ne h b in omega arith)
               (λ b. let e = updated_same m.left p n in omega arith);
           puts = λ c e. absurd cc;
@@ -229,10 +229,10 @@ module _ {R : Type 0} (rules : Rules R) (pl : Plan) (w : ℕ) where
           record {
             channel = G.channel;
             then = m';
-            turn = subst (λ (a : Answer). Turn w m p G.channel (said_of a) m') (sym e_a)
+            turn = rw e_a
                 (turn_force act.0 G.channel G.said G.reading' G.link' left'' act.1 G.forces (let e = updated_same ls.left' p n in let k = own_left on in omega arith)
                 (others_updated G.channel ls.left' n ls.others));
-            shelved = close m' (subst (λ (x : Meaning R). Fits rules.blank pl x G.reading' G.link' (updated m.job p (forced act.0 G.said))) (sym e_m) brought_fits)
+            shelved = close m' (rw e_m brought_fits)
                 (λ q ne. updated_other m.job p _ q ne)
                 (λ q ne h b. let e = updated_other ls.left' p n q ne in let k = ls.bound q ne h b in omega arith)
                 (λ b. let e = updated_same ls.left' p n in omega arith);
@@ -245,15 +245,15 @@ module _ {R : Type 0} (rules : Rules R) (pl : Plan) (w : ℕ) where
           let left'' = updated ls.left' p 0 in
           let m' : Shelf R = record { reading = G.reading'; link = G.link'; job = updated m.job p rests; left = left'' } in
           let F' : Fits rules.blank pl (rules.means t) G.reading' G.link' (updated m.job p rests) =
-          subst (λ (x : Meaning R). Fits rules.blank pl x G.reading' G.link' (updated m.job p rests)) (sym e_m)
-          (subst (Fits rules.blank pl (does (brought rules.blank M p o) p idle) G.reading' G.link') (updated_twice m.job p (forced act.0 G.said) rests)
+          rw e_m
+          (rw (← updated_twice m.job p (forced act.0 G.said) rests)
           (rest_again rules.blank pl (brought rules.blank M p o) G.reading' G.link' (updated m.job p (forced act.0 G.said)) p in_p brought_fits)) in
           let rest : activity_of (rules.means t) p ≡ idle = does_at F' p rests in_p (updated_same m.job p rests) in
           let e_s : said_of (rules.answer s p) ≡ some G.said = ap said_of (e_a ∙ (let f = forced_now in cc (e_f, f))) ∙ said_back G.said in
           record {
             channel = G.channel;
             then = m';
-            turn = subst (λ (x : Option Said). Turn w m p G.channel x m') (sym e_s)
+            turn = rw e_s
                 (turn_both act.0 G.channel G.said G.reading' G.link' left'' act.1 G.forces (let e = updated_same ls.left' p 0 in omega arith)
                 (others_updated G.channel ls.left' 0 ls.others));
             shelved = close m' F' (λ q ne. updated_other m.job p _ q ne)
@@ -268,13 +268,13 @@ module _ {R : Type 0} (rules : Rules R) (pl : Plan) (w : ℕ) where
         let j = job_forced pl p (m.link p) (activity_of M p) a (m.job p) (ok.fits.activities p in_p) e_d in
         let m' : Shelf R = record { reading = m.reading; link = m.link; job = updated m.job p rests; left = m.left } in
         let F' : Fits rules.blank pl (rules.means t) m.reading m.link (updated m.job p rests) =
-        subst (λ (x : Meaning R). Fits rules.blank pl x m.reading m.link (updated m.job p rests)) (sym e_m) (rest_again rules.blank pl M m.reading m.link m.job p in_p ok.fits) in
+        rw e_m (rest_again rules.blank pl M m.reading m.link m.job p in_p ok.fits) in
         let rest : activity_of (rules.means t) p ≡ idle = does_at F' p rests in_p (updated_same m.job p rests) in
         let e_s : said_of (rules.answer s p) ≡ some j.1 = ap said_of (e_a ∙ j.3) ∙ said_back j.1 in
         record {
           channel = none;
           then = m';
-          turn = subst (λ (x : Option Said). Turn w m p none x m') (sym e_s) (turn_end j.0 j.1 j.2);
+          turn = rw e_s (turn_end j.0 j.1 j.2);
           shelved = close m' F' (λ q ne. updated_other m.job p _ q ne) (λ q ne h b. bound q ne h b) (λ b. absurd (b rest));
           puts = λ c e. absurd cc;
         }
