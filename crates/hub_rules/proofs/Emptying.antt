@@ -1,10 +1,10 @@
 -- All links of a party emptied, exactly and in the model.
-use Rattle.std.proofs.Common.{◌≡◌, ℕ, zero, suc, ◌<◌, ◌≤◌, ◌≢◌, List, length, get_or, set, sym, refl, ap, ◌∙◌, subst, arith, length-set, get_or-set_other, get_or-set_same}
+use Rattle.std.proofs.Common.{◌≡◌, ℕ, zero, suc, ◌<◌, ◌≤◌, ◌≢◌, length, refl, ap, ◌∙◌, arith, length-set, get_or-set_other, get_or-set_same}
 use Rattle.std.proofs.lemmas.Bool.{lt-ltb}
 use Rattle.reading.specs.Kinds.{KindOf}
 use Rattle.plan.specs.declared.check.Plan.{Plan}
 use Rattle.plan.specs.Plans.{width}
-use Rattle.shelf.specs.Meaning.{flat, Link, vacant, Activity, idle, Meaning, link_at, activity_of, linking}
+use Rattle.shelf.specs.Meaning.{flat, vacant, idle, Meaning, link_at, activity_of, linking}
 use Rattle.shelf.specs.Rules.{Rules}
 use Rattle.std.specs.List.{AllByRecursion}
 use Rattle.shelf.proofs.Passing.{Passed, passes}
@@ -43,21 +43,20 @@ module _ {R : Type 0} (kind : KindOf R) (rules : Rules R) (pl : Plan) (w : ℕ) 
       let free' : activity_of (rules.means t) p ≡ idle = rw E.activities free in
       let law = rules.drops t p (flat (rules.plan t) p n) E.sound in_plan (own_flat (rules.plan t) p n in_links) free' in
       let e_m : rules.means (rules.dropped t p (flat (rules.plan t) p n)) ≡ linking (rules.means t) (flat pl p n) vacant = law.1 ∙ rw E.plan refl in
-      let links_are : (rules.means (rules.dropped t p (flat (rules.plan t) p n))).links ≡ set (rules.means t).links (flat pl p n) vacant = ap (λ (x : Meaning R). x.links) e_m in
       let tests : AllByRecursion Passed (C.tests_of (rules.plan t) (rules.means t) (C.Drop p n)) = (lt-ltb _ _ in_plan, (ap is_idle free', (lt-ltb _ _ in_links, tt))) in
-      rw (ap (C.leaves t) (passes (C.tests_of (rules.plan t) (rules.means t) (C.Drop p n)) (rules.dropped t p (flat (rules.plan t) p n)) tests))
+      rw (passes (C.tests_of (rules.plan t) (rules.means t) (C.Drop p n)) (rules.dropped t p (flat (rules.plan t) p n)) tests)
       (record {
         sound = law.0.sound';
         plan = law.0.plan' ∙ E.plan;
         patience = law.0.patience' ∙ E.patience;
         left = λ q ne h. let a = law.0.left' q ne (rw E.plan h) in let b = E.left q ne h in omega arith;
-        readings = ap (λ (x : Meaning R). x.readings) e_m ∙ E.readings;
-        activities = ap (λ (x : Meaning R). x.activities) e_m ∙ E.activities;
-        size = ap length links_are ∙ (length-set (rules.means t).links (flat pl p n) vacant ∙ E.size);
+        readings = rw e_m E.readings;
+        activities = rw e_m E.activities;
+        size = rw e_m (length-set (rules.means t).links (flat pl p n) vacant ∙ E.size);
         gone = at_party n (λ i. i < suc n → link_at (rules.means (rules.dropped t p (flat (rules.plan t) p n))) (flat pl p i) ≡ vacant)
-            (λ h. rw links_are (get_or-set_same (rules.means t).links (flat pl p n) vacant vacant (let a = E.size in let b = flat_below pl p n in_p in_n in omega arith)))
-            (λ i ne h. rw (links_are, get_or-set_other (rules.means t).links (flat pl p n) (flat pl p i) vacant vacant (flat_other pl p n i ne)) (E.gone i (omega (arith, ne))));
-        kept = λ q i ne h. rw (links_are, get_or-set_other (rules.means t).links (flat pl p n) (flat pl q i) vacant vacant (flat_apart pl p q n i ne in_n h)) (E.kept q i ne h);
+            (λ h. rw e_m (get_or-set_same (rules.means t).links (flat pl p n) vacant vacant (let a = E.size in let b = flat_below pl p n in_p in_n in omega arith)))
+            (λ i ne h. rw (e_m, get_or-set_other (rules.means t).links (flat pl p n) (flat pl p i) vacant vacant (flat_other pl p n i ne)) (E.gone i (omega (arith, ne))));
+        kept = λ q i ne h. rw (e_m, get_or-set_other (rules.means t).links (flat pl p n) (flat pl q i) vacant vacant (flat_apart pl p q n i ne in_n h)) (E.kept q i ne h);
       })
 
   all_emptied : (n : ℕ) → n ≤ pl.links → Emptied n (emptied kind rules s p n)

@@ -1,9 +1,9 @@
 -- A waiting operation comes into force in the meaning as in the model.
-use Rattle.std.proofs.Common.{◌≡◌, ℕ, ◌<◌, Bool, true, false, ◌≢◌, List, length, get_or, set, sym, refl, ap, ◌∙◌, subst, arith, length-set, get_or-set_other, get_or-set_same}
+use Rattle.std.proofs.Common.{◌≡◌, ℕ, ◌<◌, Bool, true, false, ◌≢◌, List, length, get_or, set, sym, refl, ap, ◌∙◌, arith, length-set, get_or-set_other, get_or-set_same}
 use mathlib.Core.Option.{Option, none, some}
 use Rattle.std.proofs.lemmas.List.{length-map, get_or-map}
 use Rattle.plan.specs.declared.check.Plan.{Plan}
-use Rattle.shelf.specs.Meaning.{flat, Link, vacant, holds, Operation, take, put, check, Activity, idle, waits, in_force, Meaning, link_at, activity_of, does, break_on, put_on, verdict, brought, Sizes}
+use Rattle.shelf.specs.Meaning.{flat, Link, vacant, holds, Operation, take, put, check, Activity, idle, waits, in_force, Meaning, link_at, activity_of, does, break_on, brought, Sizes}
 use Rattle.history.specs.Board.{updated}
 use Rattle.history.proofs.Shelf.{Said, taken, stored, missed, live, broken, Job, rests, awaits, forced, Shelf, set_link, Forces, force_take, force_put, force_miss, force_live, force_broken}
 use Rattle.history.proofs.Fitting.{Ready, break_ready}
@@ -91,8 +91,7 @@ module _ {R : Type 0} (blank : R) (pl : Plan) where
           fits = record {
             sizes = record { readings = F.sizes.readings; links = length-set M.links (flat pl p i) _ ∙ F.sizes.links; activities = size_activities (in_force (answer_of taken)) };
             readings = F.readings;
-            links = λ q j a b. ap (λ (r : R). get_or (set M.links (flat pl p i) (holds c r true)) (flat pl q j) vacant) (F.readings c in_c)
-                ∙ relink M m.link p i (holds c (m.reading c) true) F.sizes in_p in_i F.links q j a b;
+            links = λ q j a b. rw (F.readings c in_c) (relink M m.link p i (holds c (m.reading c) true) F.sizes in_p in_i F.links q j a b);
             activities = redone (set_link m.link p i (holds c (m.reading c) true)) (in_force (answer_of taken)) (forced (take i c) taken) (relink_ready m.link p i _) refl;
           };
           stored_on = λ c' z. cc;

@@ -1,22 +1,21 @@
 -- What a party holds reads the same until its next accepted order or its release.
-use Rattle.std.proofs.Common.{◌≡◌, ℕ, suc, ◌<◌, Bool, true, not, ◌&&◌, ◌≢◌, List, [], ◌∷◌, ◌++◌, length, sym, refl, ap, ◌∙◌, subst, arith}
+use Rattle.std.proofs.Common.{◌≡◌, ℕ, suc, ◌<◌, Bool, true, not, ◌≢◌, List, [], ◌∷◌, ◌++◌, length, sym, refl, ap, ◌∙◌, arith}
 use mathlib.Core.Option.{Option, none, some}
-use Rattle.std.proofs.lemmas.Bool.{ltb-true, lt-ltb, and_parts}
+use Rattle.std.proofs.lemmas.Bool.{ltb-true, and_parts}
 use Rattle.plan.specs.Refusals.{Outcome, accepted, refused}
 use Rattle.plan.specs.Plans.{InRange}
 use Rattle.plan.specs.declared.check.Plan.{Plan}
 use Rattle.reading.specs.Kinds.{KindOf}
-use Rattle.shelf.specs.Meaning.{flat, Link, vacant, holds, Operation, idle, link_at, activity_of, break_on}
+use Rattle.shelf.specs.Meaning.{flat, Link, vacant, holds, Operation, link_at, activity_of, break_on}
 use Rattle.shelf.specs.Rules.{Rules}
 use Rattle.shelf.specs.Calls.{is_idle, is_vacant, reading_on}
-use Rattle.shelf.proofs.Passing.{passes, accepted_passed}
+use Rattle.shelf.proofs.Passing.{accepted_passed}
 use Rattle.shelf.proofs.After.{idle_is}
 use Rattle.history.specs.Board.{updated, Order, amendment, picture}
 use Rattle.history.proofs.Shelf.{Said, rests, awaits, Shelf, Starts, start_take, start_put, start_check, Forces, force_take, force_put, force_miss, force_live, force_broken, Turn as ModelTurn, turn_still, turn_force, turn_end, turn_both}
 use Rattle.history.proofs.Hub as N
 use Rattle.history.proofs.Hub.{Stage, Task, free, doing, Begun, begun_before, begun_now, Step, step_order, step_run, step_next, step_done, step_release, step_nothing, Past, after_that}
 use Rattle.history.proofs.Basics.{updated_other}
-use Rattle.hub_rules.specs.declared.parts.Party.{Party}
 use Rattle.hub_rules.specs.declared.parts.Progress.{Progress}
 use Rattle.hub_rules.specs.declared.parts.Progress.TheVariants.{Run, Done}
 use Rattle.hub_rules.specs.Hub.{Call, Amendment, Picture, Turn, Release, Look, Hub, is_free, party_of, tests_of, after, granted, turn_answer, looked, after_all, made_on}

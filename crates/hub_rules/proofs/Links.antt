@@ -1,8 +1,8 @@
 -- Numbers of links.
-use Rattle.std.proofs.Common.{ℕ, ◌<◌, ◌≢◌, sym, subst, arith}
+use Rattle.std.proofs.Common.{ℕ, ◌<◌, ◌≢◌, arith}
 use Rattle.plan.specs.Plans.{width}
 use Rattle.plan.specs.declared.check.Plan.{Plan}
-use Rattle.shelf.specs.Meaning.{flat, Own}
+use Rattle.shelf.specs.Meaning.{flat}
 use Rattle.shelf.proofs.Basics.{own_apart, own_below}
 use Rattle.shelf.proofs.After.{own_flat}
 

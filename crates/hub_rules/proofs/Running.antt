@@ -1,10 +1,10 @@
 -- Every list of calls from a fresh shelf is a past of the model.
-use Rattle.std.proofs.Common.{◌≡◌, ℕ, zero, suc, ◌<◌, List, [], ◌∷◌, ◌++◌, length, get_or, take, replicate, sym, refl, ap, ◌∙◌, subst, append_assoc, append-nil, arith}
+use Rattle.std.proofs.Common.{◌≡◌, ℕ, zero, suc, ◌<◌, List, [], ◌∷◌, ◌++◌, length, get_or, take, replicate, sym, refl, ap, append_assoc, append-nil, arith}
 use Rattle.std.proofs.lemmas.List.{length-replicate}
 use Rattle.reading.specs.Kinds.{KindOf}
 use Rattle.plan.specs.declared.check.Plan.{Plan}
 use Rattle.plan.specs.Plans.{width, InRange}
-use Rattle.shelf.specs.Meaning.{flat, vacant, idle, Meaning, link_at, activity_of}
+use Rattle.shelf.specs.Meaning.{flat, vacant, idle, activity_of}
 use Rattle.shelf.specs.Rules.{Rules, Fresh}
 use Rattle.history.proofs.Shelf.{rests}
 use Rattle.history.proofs.Hub as N
@@ -83,7 +83,7 @@ module _ {R : Type 0} (kind : KindOf R) (rules : Rules R) where
     fresh_matches =
         let b = fresh in
         let e = b.is_blank in
-        let resting_all : (p : ℕ) → activity_of (rules.means s) p ≡ idle = λ p. ap (λ (m : Meaning R). activity_of m p) e ∙ get_d_blank pl.parties p idle in
+        let resting_all : (p : ℕ) → activity_of (rules.means s) p ≡ idle = λ p. rw e (get_d_blank pl.parties p idle) in
         record {
           shelved = record {
             sound = b.is_sound;
@@ -91,8 +91,8 @@ module _ {R : Type 0} (kind : KindOf R) (rules : Rules R) where
             patience = refl;
             fits = record {
               sizes = rules.sizes s b.is_sound;
-              readings = λ c h. ap (λ (m : Meaning R). get_or m.readings c rules.blank) e ∙ get_d_blank pl.channels c rules.blank;
-              links = λ p i a c. ap (λ (m : Meaning R). link_at m (flat pl p i)) e ∙ get_d_blank (width pl) (flat pl p i) vacant;
+              readings = λ c h. rw e (get_d_blank pl.channels c rules.blank);
+              links = λ p i a c. rw e (get_d_blank (width pl) (flat pl p i) vacant);
               activities = λ p h. resting_all p;
             };
             left = λ p h n. absurd (n (resting_all p));

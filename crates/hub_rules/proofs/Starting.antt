@@ -1,6 +1,6 @@
 -- A hub's turn starts the shelf operation that its party is at, exactly and in the model.
-use Rattle.std.proofs.Common.{◌≡◌, ℕ, suc, ◌-◌, ◌<◌, ◌≤◌, Bool, true, false, cond, not, ◌≢◌, get_or, sym, refl, ap, ◌∙◌, subst, arith, length-set}
-use Rattle.std.proofs.lemmas.Bool.{lt-ltb}
+use Rattle.std.proofs.Common.{◌≡◌, ℕ, suc, ◌-◌, ◌<◌, ◌≤◌, Bool, true, false, not, ◌≢◌, get_or, refl, ap, ◌∙◌, arith, length-set}
+use Rattle.std.proofs.lemmas.Bool.{lt-ltb, cond-false}
 use Rattle.reading.specs.Kinds.{KindOf}
 use Rattle.plan.specs.declared.check.Plan.{Plan}
 use Rattle.shelf.specs.Meaning.{flat, Link, vacant, holds, Operation, take, put, check, Activity, idle, waits, in_force, Meaning, link_at, activity_of, does, linking}
@@ -11,7 +11,7 @@ use Rattle.shelf.proofs.After.{own_flat}
 use Rattle.shelf.specs.Calls as C
 use Rattle.shelf.specs.Calls.{is_idle, is_vacant, reading_on}
 use Rattle.history.specs.Board.{updated, amendment, picture}
-use Rattle.history.proofs.Shelf.{Job, rests, awaits, Shelf, set_link, Starts, start_take, start_put, start_check}
+use Rattle.history.proofs.Shelf.{rests, awaits, Shelf, set_link, Starts, start_take, start_put, start_check}
 use Rattle.history.proofs.Hub as N
 use Rattle.history.proofs.Hub.{Wants, want_take, want_put, want_check, Begun, begun_before, begun_now}
 use Rattle.history.proofs.Fitting.{Ready, CanBegin}
@@ -95,7 +95,7 @@ module _ {R : Type 0} (kind : KindOf R) (rules : Rules R) (pl : Plan) (w : ℕ) 
       -- what the hub starts, where the shelf accepts it
       started_is : (k : C.Call R) → AllByRecursion Passed (C.tests_of (rules.plan s) M k) → started kind rules s p k ≡ C.state_after rules s k
       started_is k t =
-          ap (λ (b : Bool). cond b (C.after rules s k) s) idle_true ∙ ap (C.leaves s) (passes (C.tests_of (rules.plan s) M k) (C.state_after rules s k) t)
+          rw (idle_true, passes (C.tests_of (rules.plan s) M k) (C.state_after rules s k) t) refl
 
       full : (i c : ℕ) (r : R) (b : Bool) → i < pl.links → m.link p i ≡ holds c r b → link_at M (flat (rules.plan s) p i) ≡ holds c r b
       full i c r b h e = link_is ok p i in_p h ∙ e
@@ -104,7 +104,7 @@ module _ {R : Type 0} (kind : KindOf R) (rules : Rules R) (pl : Plan) (w : ℕ) 
       not_vacant i c r b h e z = let f = full i c r b h e in cc
 
       full_true : (i c : ℕ) (r : R) (b : Bool) → i < pl.links → m.link p i ≡ holds c r b → not (is_vacant (link_at M (flat (rules.plan s) p i))) ≡ true
-      full_true i c r b h e = ap (λ (l : Link R). not (is_vacant l)) (full i c r b h e)
+      full_true i c r b h e = rw (full i c r b h e) refl
 
       -- the meaning with party p's operation waiting
       waiting : (a : Operation R) → CanWait pl (m.link p) a → Fits rules.blank pl (does M p (waits (flat_operation pl p a))) m.reading m.link (updated m.job p (awaits a))
@@ -124,9 +124,6 @@ module _ {R : Type 0} (kind : KindOf R) (rules : Rules R) (pl : Plan) (w : ℕ) 
             (relink_ready rules.blank pl m.link p i vacant) (refl, (in_i, in_c));
       }
 
-      fits_at : {X Y : Meaning R} {link' : ℕ → ℕ → Link R} {job' : ℕ → Job R} → X ≡ Y → Fits rules.blank pl Y m.reading link' job' → Fits rules.blank pl X m.reading link' job'
-      fits_at {X} {Y} {link'} {job'} e F = rw e F
-
       take_tests : (i c : ℕ) → i < pl.links → c < pl.channels → AllByRecursion Passed (C.tests_of (rules.plan s) M (C.Take p i c))
       take_tests i c in_i in_c = (lt-ltb _ _ in_plan, (idle_true, (lt-ltb _ _ (in_links i in_i), (lt-ltb _ _ (in_channels c in_c), tt))))
 
@@ -140,7 +137,7 @@ module _ {R : Type 0} (kind : KindOf R) (rules : Rules R) (pl : Plan) (w : ℕ) 
           let law = rules.takes s p (flat (rules.plan s) p j) c ok.sound in_plan (own_flat (rules.plan s) p j (in_links j in_j)) (in_channels c in_c) free in
           begin y (take j c) (set_link m.link p j vacant) (rules.start_take s p (flat (rules.plan s) p j) c)
           (e ∙ started_is (C.Take p j c) (take_tests j c in_j in_c)) W (start_take j c) law.0
-          (fits_at (law.1 ∙ ap (λ (x : Plan). does (linking M (flat x p j) vacant) p (waits (take (flat x p j) c))) ok.plan) (taking_link j c in_j in_c))
+          (rw (law.1, ok.plan) (taking_link j c in_j in_c))
 
       taken_is : (rd : Ready (m.link p 0)) → 0 < pl.links → taken_by kind rules s p ≡ rd.reading
       taken_is rd in_0 =
@@ -152,9 +149,9 @@ module _ {R : Type 0} (kind : KindOf R) (rules : Rules R) (pl : Plan) (w : ℕ) 
           let value = kind.amended rd.reading v in
           let law = rules.puts s p (flat (rules.plan s) p 0) value ok.sound in_plan (own_flat (rules.plan s) p 0 (in_links 0 in_0)) free (not_vacant 0 rd.channel rd.reading rd.is_live in_0 rd.is) in
           begin (AmendmentPut c v) (put 0 value) m.link (rules.start_put s p (flat (rules.plan s) p 0) value)
-          (ap (λ (r : R). started kind rules s p (C.Put p 0 (kind.amended r v))) (taken_is rd in_0) ∙ started_is (C.Put p 0 value) (full_tests 0 in_0 rd))
+          (rw (taken_is rd in_0) (started_is (C.Put p 0 value) (full_tests 0 in_0 rd)))
           (want_put c v rd.channel rd.reading rd.is_live rd.is) (start_put 0 value rd.channel rd.reading rd.is_live rd.is) law.0
-          (fits_at (law.1 ∙ ap (λ (x : Plan). does M p (waits (put (flat x p 0) value))) ok.plan) (waiting (put 0 value) (in_0, rd)))
+          (rw (law.1, ok.plan) (waiting (put 0 value) (in_0, rd)))
 
       begin_check : (l : ArrayVec ℕ) (j : ℕ) → j < pl.links → Ready (m.link p j) → BegunMatched s m p (PictureCheck l j)
       begin_check l j in_j rd =
@@ -162,7 +159,7 @@ module _ {R : Type 0} (kind : KindOf R) (rules : Rules R) (pl : Plan) (w : ℕ) 
           begin (PictureCheck l j) (check j) m.link (rules.start_check s p (flat (rules.plan s) p j))
           (started_is (C.Check p j) (full_tests j in_j rd))
           (want_check l.items j) (start_check j rd.channel rd.reading rd.is_live rd.is) law.0
-          (fits_at (law.1 ∙ ap (λ (x : Plan). does M p (waits (check (flat x p j)))) ok.plan) (waiting (check j) (in_j, rd)))
+          (rw (law.1, ok.plan) (waiting (check j) (in_j, rd)))
 
     module _ (plan : N.Plan) (same_links : plan.links ≡ pl.links) (same_channels : plan.channels ≡ pl.channels) where
       begin_free : (y : Party) → activity_of M p ≡ idle → CanBegin plan (m.link p) (order_of y) (stage_of y) → BegunMatched s m p y
@@ -176,10 +173,10 @@ module _ {R : Type 0} (kind : KindOf R) (rules : Rules R) (pl : Plan) (w : ℕ) 
       -- an operation runs already
       running_stays : (y : Party) → is_idle (activity_of M p) ≡ false → begun kind rules s p y ≡ s
       running_stays Idle e = refl
-      running_stays (AmendmentTake c v) e = ap (λ (b : Bool). cond b (C.after rules s (C.Take p 0 c)) s) e
-      running_stays (AmendmentPut c v) e = ap (λ (b : Bool). cond b (C.after rules s (C.Put p 0 (kind.amended (taken_by kind rules s p) v))) s) e
-      running_stays (PictureTake l i) e = ap (λ (b : Bool). cond b (C.after rules s (C.Take p i (get_or l.items i 0))) s) e
-      running_stays (PictureCheck l i) e = ap (λ (b : Bool). cond b (C.after rules s (C.Check p i)) s) e
+      running_stays (AmendmentTake c v) e = cond-false _ _ _ e
+      running_stays (AmendmentPut c v) e = cond-false _ _ _ e
+      running_stays (PictureTake l i) e = cond-false _ _ _ e
+      running_stays (PictureCheck l i) e = cond-false _ _ _ e
 
       begin_busy : (y : Party) → activity_of M p ≢ idle → is_idle (activity_of M p) ≡ false → BegunMatched s m p y
       begin_busy y busy e =

@@ -3,7 +3,7 @@ use Rattle.std.proofs.Common.{◌≡◌, ℕ, zero, suc, ◌+◌, ◌<◌, true,
 use mathlib.Core.Option.{Option, none, some}
 use Rattle.std.specs.List.{AllByRecursion}
 use Rattle.std.proofs.lemmas.Bool.{ltb-true, lt-ltb, leb-true, and_parts, and_from}
-use Rattle.plan.specs.Refusals.{Outcome, accepted}
+use Rattle.plan.specs.Refusals.{accepted}
 use Rattle.plan.specs.Plans.{InRange}
 use Rattle.plan.specs.declared.check.Plan.{Plan}
 use Rattle.reading.specs.Kinds.{KindOf}
@@ -24,15 +24,14 @@ use Rattle.history.proofs.Shape.{past_begins, past_says, past_amends, past_ready
 use Rattle.hub_rules.specs.declared.parts.Party.{Party}
 use Rattle.hub_rules.specs.declared.parts.Party.TheVariants.{Idle, AmendmentTake, AmendmentPut, PictureTake, PictureCheck}
 use Rattle.hub_rules.specs.declared.parts.Progress.TheVariants as progress
-use Rattle.hub_rules.specs.declared.parts.Progress.{Progress}
-use Rattle.hub_rules.specs.Hub.{Call, Amendment, Picture, Turn, Release, Look, Hub, is_free, progress_of, next, next_of, emptied, begun, party_of, tests_of, ordered, next_at, turned, hub_after, after, turn_answer, looked}
+use Rattle.hub_rules.specs.Hub.{Call, Amendment, Picture, Turn, Release, Look, Hub, is_free, progress_of, next, emptied, begun, party_of, tests_of, ordered, next_at, turned, hub_after, after, turn_answer, looked}
 use Rattle.hub_rules.specs.Law.{BringsIntoForce}
 use Rattle.hub_rules.proofs.Match.{answer_of, task_of, order_of, stage_of, Shelved, Matches, does_at, link_is}
 use Rattle.hub_rules.proofs.Turning.{said_of, TurnMatched, turn_matched}
 use Rattle.hub_rules.proofs.Starting.{BegunMatched, begun_matched}
 use Rattle.hub_rules.proofs.Emptying.{cleared_matched}
 use Rattle.hub_rules.proofs.Stages.{Leads, to_end, to_stage, leads, next_run, free_from, Runs, runs_from, below_at, apart_at}
-use Rattle.hub_rules.proofs.Hearing.{order_event, turn_event, release_event, Told, quiet, event_of, refused_event}
+use Rattle.hub_rules.proofs.Hearing.{order_event, release_event, Told, quiet, event_of, refused_event}
 
 module _ {R : Type 0} where
   looks_length : (blank : R) (links : ℕ → Link R) (i : ℕ) (cs : List ℕ) → length (looks blank links i cs) ≡ length cs
@@ -161,7 +160,7 @@ module _ {R : Type 0} (kind : KindOf R) (rules : Rules R) (plan : N.Plan) (pl : 
         goes_on v e_a t = record {
           forces = is_some f;
           answer = [];
-          is = ap (λ (z : Outcome Progress). turn_event p (is_some f) [] z) (sym e_a);
+          is = rw e_a refl;
           brings = brings_at f puts (amends_at t) v;
           looks_give = λ q i a b l. absurd (omega arith);
         }
@@ -215,7 +214,7 @@ module _ {R : Type 0} (kind : KindOf R) (rules : Rules R) (plan : N.Plan) (pl : 
               told = record {
                 forces = is_some f;
                 answer = answer;
-                is = ap (λ (z : Outcome Progress). turn_event p (is_some f) answer z) (sym e_a);
+                is = rw e_a refl;
                 brings = brings_at f puts (amends_at t) Idle;
                 looks_give = λ q i e d l.
                     let l' : i < length (listed (order_of y)) = (let a = looks_length rules.blank (n.link p) 0 (listed (order_of y)) in omega arith) in
@@ -226,16 +225,16 @@ module _ {R : Type 0} (kind : KindOf R) (rules : Rules R) (plan : N.Plan) (pl : 
 
         -- by where the answer leads
         led : (sd : Said) → turn_answer kind rules x p ≡ accepted (progress_of (next y (answer_of sd))) → ModelTurn plan.patience B.then p f (some sd) n → Leads y sd → Stepped x h (Turn p) (then_at (next y (answer_of sd)))
-        led sd e_a t (to_end nx e) = rw e (finished sd (e_a ∙ ap (λ (v : Party). accepted (progress_of v)) e) t nx)
+        led sd e_a t (to_end nx e) = rw e (finished sd (cc (e_a, e)) t nx)
         led sd e_a t (to_stage v st nx e e_v e_r) =
-            rw e (went_on sd v st (e_a ∙ (ap (λ (v : Party). accepted (progress_of v)) e ∙ ap accepted e_r)) e_v t nx)
+            rw e (went_on sd v st (cc (e_a, e, e_r)) e_v t nx)
 
         said : (sd : Said) → turn_answer kind rules x p ≡ accepted (progress_of (next y (answer_of sd))) → ModelTurn plan.patience B.then p f (some sd) n → Stepped x h (Turn p) (then_at (next y (answer_of sd)))
         said sd e_a t = led sd e_a t (leads y sd (past_says rules.blank kind.amended plan log h past p (order_of y) (stage_of y) hub_task begins_at t))
 
         by_answer : (a : Answer) → turn_answer kind rules x p ≡ accepted (progress_of (next y a)) → ModelTurn plan.patience B.then p f (said_of a) n → Stepped x h (Turn p) (then_at (next y a))
         by_answer answers.Run e_a t =
-            rw (next_run y) (ran (e_a ∙ (ap (λ (v : Party). accepted (progress_of v)) (next_run y) ∙ ap accepted running.progress)) t)
+            rw (next_run y) (ran (cc (e_a, next_run y, running.progress)) t)
         by_answer answers.Taken e_a t = said taken e_a t
         by_answer answers.Stored e_a t = said put_stored e_a t
         by_answer answers.Missed e_a t = said missed e_a t
@@ -255,10 +254,10 @@ module _ {R : Type 0} (kind : KindOf R) (rules : Rules R) (plan : N.Plan) (pl : 
       hub_answers : turn_answer kind rules x p ≡ accepted (progress_of (next y (rules.answer s p)))
       hub_answers =
           passes (tests_of kind rules x (Turn p)) (progress_of (next_at kind rules x p (party_of kind rules x p))) t
-          ∙ (ap (λ (z : Party). accepted (progress_of (next_at kind rules x p z))) e_y ∙ ap (λ (z : Outcome Answer). accepted (progress_of (next_of y z))) shelf_answers)
+          ∙ rw (e_y, shelf_answers) refl
 
       hub_turned : turned kind rules x p (party_of kind rules x p) ≡ then_at (next y (rules.answer s p))
-      hub_turned = ap (turned kind rules x p) e_y ∙ (λ i. record { shelf = shelf_turned i; table = set x.table p (next_of y (shelf_answers i)) })
+      hub_turned = rw (e_y, shelf_turned, shelf_answers) refl
 
       turn_step : Stepped x h (Turn p) (turned kind rules x p (party_of kind rules x p))
       turn_step =

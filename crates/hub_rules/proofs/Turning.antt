@@ -1,12 +1,12 @@
 -- A turn of an exact shelf is a turn of the model.
-use Rattle.std.proofs.Common.{◌≡◌, ℕ, suc, ◌+◌, ◌-◌, ◌<◌, ◌≤◌, true, ◌≢◌, ◌⊎◌, sym, refl, ap, ◌∙◌, subst, inl, inr, arith}
+use Rattle.std.proofs.Common.{◌≡◌, ℕ, suc, ◌+◌, ◌-◌, ◌<◌, ◌≤◌, ◌≢◌, ◌⊎◌, sym, refl, ap, ◌∙◌, subst, inl, inr, arith}
 use mathlib.Core.Option.{Option, none, some}
 use native.Mathlib.Decide.{ℕ_discrete}
 use Rattle.std.proofs.lemmas.Bool.{cases_lt}
 use Rattle.shelf.specs.declared.answer.Answer.{Answer}
 use Rattle.shelf.specs.declared.answer.Answer.TheVariants.{Run, Taken, Stored, Missed, Live, Broken}
 use Rattle.plan.specs.declared.check.Plan.{Plan}
-use Rattle.shelf.specs.Meaning.{flat, Link, holds, Operation, take, put, check, Activity, idle, waits, in_force, Meaning, link_at, activity_of, does, brought, Turned, alters_nothing, comes, ends, comes_and_ends, Stores, is_on}
+use Rattle.shelf.specs.Meaning.{flat, Link, Operation, take, put, check, Activity, idle, waits, in_force, Meaning, link_at, activity_of, does, brought, Turned, alters_nothing, comes, ends, comes_and_ends, Stores, is_on}
 use Rattle.shelf.specs.Rules.{Rules}
 use Rattle.history.specs.Board.{updated}
 use Rattle.history.proofs.Shelf.{Said, taken, stored, missed, live, broken, Job, rests, awaits, forced, Shelf, OperationOn, On, Others, Turn, turn_still, turn_force, turn_end, turn_both}
@@ -176,7 +176,7 @@ module _ {R : Type 0} (rules : Rules R) (pl : Plan) (w : ℕ) where
 
     still : rules.answer s p ≡ Run → rules.means t ≡ M → TurnMatched s m p
     still e_a e_m =
-        let on : activity_of (rules.means t) p ≢ idle = λ e. busy (ap (λ (x : Meaning R). activity_of x p) (sym e_m) ∙ e) in
+        let on : activity_of (rules.means t) p ≢ idle = λ e. busy (rw e_m at e) in
         let n = rules.left t p - 1 in
         record {
           channel = none;
@@ -198,7 +198,7 @@ module _ {R : Type 0} (rules : Rules R) (pl : Plan) (w : ℕ) where
           where
             go : (rules.left t q ≤ rules.left s q) ⊎ ((c : ℕ) × Stores M (rules.means t) p c × is_on M (activity_of M q) c) → rules.left t q ≤ suc (m.left q)
             go (inl l) = let k = ok.left q h b in omega arith
-            go (inr z) = absurd (z.1.comes.waits_no_more (ap (λ (x : Meaning R). activity_of x p) e_m ∙ z.1.comes.waited))
+            go (inr z) = absurd (z.1.comes.waits_no_more (rw e_m z.1.comes.waited))
 
     others_updated : (f : Option ℕ) (l : ℕ → ℕ) (n : ℕ) → Others w m p f l → Others w m p f (updated l p n)
     others_updated none l n o = λ q ne. rw (updated_other l p n q ne) (o q ne)
@@ -221,7 +221,7 @@ module _ {R : Type 0} (rules : Rules R) (pl : Plan) (w : ℕ) where
       come : rules.answer s p ≡ Run → rules.means t ≡ brought rules.blank M p o → TurnMatched s m p
       come e_a e_m =
           let ls = lefts G.channel G.stored_on in
-          let e_now : activity_of (rules.means t) p ≡ in_force (answer_of G.said) = ap (λ (x : Meaning R). activity_of x p) e_m ∙ forced_now in
+          let e_now : activity_of (rules.means t) p ≡ in_force (answer_of G.said) = rw e_m forced_now in
           let on : activity_of (rules.means t) p ≢ idle = λ e. cc in
           let n = rules.left t p - 1 in
           let left'' = updated ls.left' p n in
