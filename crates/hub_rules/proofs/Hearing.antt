@@ -62,10 +62,7 @@ module _ {R : Type 0} (kind : KindOf R) (rules : Rules R) where
   -- ** an order
 
   order_back : (q : ℕ) (o' : Order) (r : Outcome (Unit {0})) (p : ℕ) (o : Order) → ◌≡◌ {A = N.Event R} (N.ordered p o) (order_event q o' r) → (order_call q o' ≡ order_call p o) × (r ≡ accepted tt)
-  order_back q o' (accepted u) p o e =
-      let a : q ≡ p = cc (e) in
-      let b : o' ≡ o = cc (e) in
-      ((λ i. order_call (a i) (b i)), refl)
+  order_back q o' (accepted u) p o e = (cc, refl)
   order_back q o' (refused n) p o e = absurd cc
 
   turn_no_order : (q : ℕ) (f : Bool) (a : List R) (r : Outcome Progress) (p : ℕ) (o : Order) → N.ordered p o ≡ turn_event q f a r → ⊥
@@ -103,7 +100,7 @@ module _ {R : Type 0} (kind : KindOf R) (rules : Rules R) where
 
   turn_back : (q : ℕ) (f : Bool) (a : List R) (r : Outcome Progress) (p : ℕ) (g : Bool) (b : List R) → N.done p g b ≡ turn_event q f a r → (q ≡ p) × (r ≡ accepted Done)
   turn_back q f a (accepted Run) p g b e = absurd cc
-  turn_back q f a (accepted Done) p g b e = (cc (e), refl)
+  turn_back q f a (accepted Done) p g b e = (cc, refl)
   turn_back q f a (refused n) p g b e = absurd cc
 
   pub event_done : (x : Hub rules) (k : Call) (f : Bool) (a : List R) (p : ℕ) (g : Bool) (b : List R) → N.done p g b ≡ event_of x k f a → (k ≡ Turn p) × (turn_answer kind rules x p ≡ accepted Done)
@@ -111,7 +108,7 @@ module _ {R : Type 0} (kind : KindOf R) (rules : Rules R) where
   event_done x (Picture q cs) f a p g b e = absurd (order_no_done q (picture cs) (granted kind rules x (Picture q cs)) p g b e)
   event_done x (Turn q) f a p g b e =
       let z = turn_back q f a (turn_answer kind rules x q) p g b e in
-      (ap Turn z.0, ap (turn_answer kind rules x) (sym z.0) ∙ z.1)
+      (ap Turn z.0, rw (← z.0) z.1)
   event_done x (Release q) f a p g b e = absurd (release_no_done q (granted kind rules x (Release q)) p g b e)
   event_done x (Look q i) f a p g b e = absurd cc
 

@@ -97,14 +97,11 @@ module _ {R : Type 0} (kind : KindOf R) (rules : Rules R) (pl : Plan) (w : ℕ) 
       started_is k t =
           rw (idle_true, passes (C.tests_of (rules.plan s) M k) (C.state_after rules s k) t) refl
 
-      full : (i c : ℕ) (r : R) (b : Bool) → i < pl.links → m.link p i ≡ holds c r b → link_at M (flat (rules.plan s) p i) ≡ holds c r b
-      full i c r b h e = link_is ok p i in_p h ∙ e
+      full : (i : ℕ) → i < pl.links → (rd : Ready (m.link p i)) → link_at M (flat (rules.plan s) p i) ≡ holds rd.channel rd.reading rd.is_live
+      full i in_i rd = link_is ok p i in_p in_i ∙ rd.is
 
-      not_vacant : (i c : ℕ) (r : R) (b : Bool) → i < pl.links → m.link p i ≡ holds c r b → link_at M (flat (rules.plan s) p i) ≢ vacant
-      not_vacant i c r b h e z = let f = full i c r b h e in cc
-
-      full_true : (i c : ℕ) (r : R) (b : Bool) → i < pl.links → m.link p i ≡ holds c r b → not (is_vacant (link_at M (flat (rules.plan s) p i))) ≡ true
-      full_true i c r b h e = rw (full i c r b h e) refl
+      not_vacant : (i : ℕ) → i < pl.links → Ready (m.link p i) → link_at M (flat (rules.plan s) p i) ≢ vacant
+      not_vacant i in_i rd z = let f = full i in_i rd in cc
 
       -- the meaning with party p's operation waiting
       waiting : (a : Operation R) → CanWait pl (m.link p) a → Fits rules.blank pl (does M p (waits (flat_operation pl p a))) m.reading m.link (updated m.job p (awaits a))
@@ -129,7 +126,7 @@ module _ {R : Type 0} (kind : KindOf R) (rules : Rules R) (pl : Plan) (w : ℕ) 
 
       -- those of a put, a check and a look
       full_tests : (i : ℕ) → i < pl.links → Ready (m.link p i) → AllByRecursion Passed (C.tests_of (rules.plan s) M (C.Check p i))
-      full_tests i in_i rd = (lt-ltb _ _ in_plan, (idle_true, (lt-ltb _ _ (in_links i in_i), (full_true i rd.channel rd.reading rd.is_live in_i rd.is, tt))))
+      full_tests i in_i rd = (lt-ltb _ _ in_plan, (idle_true, (lt-ltb _ _ (in_links i in_i), (rw (full i in_i rd) refl, tt))))
 
       begin_take : (y : Party) (j c : ℕ) → begun kind rules s p y ≡ started kind rules s p (C.Take p j c) → Wants kind.amended (m.link p) (order_of y) (stage_of y) (take j c)
           → j < pl.links → c < pl.channels → BegunMatched s m p y
@@ -141,13 +138,12 @@ module _ {R : Type 0} (kind : KindOf R) (rules : Rules R) (pl : Plan) (w : ℕ) 
 
       taken_is : (rd : Ready (m.link p 0)) → 0 < pl.links → taken_by kind rules s p ≡ rd.reading
       taken_is rd in_0 =
-          ap (accepted_or kind.blank) (passes (C.tests_of (rules.plan s) M (C.Look p 0)) (reading_on rules.blank (link_at M (flat (rules.plan s) p 0))) (full_tests 0 in_0 rd))
-          ∙ ap (reading_on rules.blank) (full 0 rd.channel rd.reading rd.is_live in_0 rd.is)
+          rw (passes (C.tests_of (rules.plan s) M (C.Look p 0)) (reading_on rules.blank (link_at M (flat (rules.plan s) p 0))) (full_tests 0 in_0 rd), full 0 in_0 rd) refl
 
       begin_put : (c v : ℕ) → 0 < pl.links → Ready (m.link p 0) → BegunMatched s m p (AmendmentPut c v)
       begin_put c v in_0 rd =
           let value = kind.amended rd.reading v in
-          let law = rules.puts s p (flat (rules.plan s) p 0) value ok.sound in_plan (own_flat (rules.plan s) p 0 (in_links 0 in_0)) free (not_vacant 0 rd.channel rd.reading rd.is_live in_0 rd.is) in
+          let law = rules.puts s p (flat (rules.plan s) p 0) value ok.sound in_plan (own_flat (rules.plan s) p 0 (in_links 0 in_0)) free (not_vacant 0 in_0 rd) in
           begin (AmendmentPut c v) (put 0 value) m.link (rules.start_put s p (flat (rules.plan s) p 0) value)
           (rw (taken_is rd in_0) (started_is (C.Put p 0 value) (full_tests 0 in_0 rd)))
           (want_put c v rd.channel rd.reading rd.is_live rd.is) (start_put 0 value rd.channel rd.reading rd.is_live rd.is) law.0
@@ -155,7 +151,7 @@ module _ {R : Type 0} (kind : KindOf R) (rules : Rules R) (pl : Plan) (w : ℕ) 
 
       begin_check : (l : ArrayVec ℕ) (j : ℕ) → j < pl.links → Ready (m.link p j) → BegunMatched s m p (PictureCheck l j)
       begin_check l j in_j rd =
-          let law = rules.checks s p (flat (rules.plan s) p j) ok.sound in_plan (own_flat (rules.plan s) p j (in_links j in_j)) free (not_vacant j rd.channel rd.reading rd.is_live in_j rd.is) in
+          let law = rules.checks s p (flat (rules.plan s) p j) ok.sound in_plan (own_flat (rules.plan s) p j (in_links j in_j)) free (not_vacant j in_j rd) in
           begin (PictureCheck l j) (check j) m.link (rules.start_check s p (flat (rules.plan s) p j))
           (started_is (C.Check p j) (full_tests j in_j rd))
           (want_check l.items j) (start_check j rd.channel rd.reading rd.is_live rd.is) law.0

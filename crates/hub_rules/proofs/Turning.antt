@@ -111,12 +111,16 @@ module _ {R : Type 0} (rules : Rules R) (pl : Plan) (w : ℕ) where
     abbrev Pick : ℕ → ℕ → Type 0
     Pick c q = (n : ℕ) × (q ≢ p → (n ≡ m.left q) ⊎ ((n ≤ w) × On (m.link q) (m.job q) c)) × (q ≢ p → q < pl.parties → activity_of M q ≢ idle → rules.left t q ≤ suc n)
 
-    lefts : (f : Option ℕ) → StoresOn rules.blank pl M p f → Lefts f
-    lefts none no_put = record { left' = m.left; others = λ q ne. refl; bound = λ q ne h b. go q h b (rules.stays s p q ok.sound (in_plan p in_p) (in_plan q h) ne busy) }
+    -- where nothing is stored, their turns left do not rise
+    kept_left : ((c : ℕ) → Stores M (rules.means t) p c → ⊥) → (q : ℕ) → q ≢ p → q < pl.parties → activity_of M q ≢ idle → rules.left t q ≤ suc (m.left q)
+    kept_left nothing q ne h b = go (rules.stays s p q ok.sound (in_plan p in_p) (in_plan q h) ne busy)
       where
-        go : (q : ℕ) → q < pl.parties → activity_of M q ≢ idle → (rules.left t q ≤ rules.left s q) ⊎ ((c : ℕ) × Stores M (rules.means t) p c × is_on M (activity_of M q) c) → rules.left t q ≤ suc (m.left q)
-        go q h b (inl l) = let k = ok.left q h b in omega arith
-        go q h b (inr z) = absurd (no_put z.0 (waiting z.0 z.1))
+        go : (rules.left t q ≤ rules.left s q) ⊎ ((c : ℕ) × Stores M (rules.means t) p c × is_on M (activity_of M q) c) → rules.left t q ≤ suc (m.left q)
+        go (inl l) = let k = ok.left q h b in omega arith
+        go (inr z) = absurd (nothing z.0 z.1)
+
+    lefts : (f : Option ℕ) → StoresOn rules.blank pl M p f → Lefts f
+    lefts none no_put = record { left' = m.left; others = λ q ne. refl; bound = kept_left (λ c z. no_put c (waiting c z)) }
     lefts (some c) put_on = record { left' = λ q. (pick q).0; others = λ q ne. (pick q).1 ne; bound = λ q ne h b. (pick q).2 ne h b }
       where
         same_channel : (c' : ℕ) → WaitsToStore M p c' → c' ≡ c
@@ -156,7 +160,7 @@ module _ {R : Type 0} (rules : Rules R) (pl : Plan) (w : ℕ) where
       plan = (rules.turns s p ok.sound (in_plan p in_p) busy).1 ∙ ok.plan;
       patience = (rules.turns s p ok.sound (in_plan p in_p) busy).2 ∙ ok.patience;
       fits = F;
-      left = at_party p (λ q. q < pl.parties → activity_of (rules.means t) q ≢ idle → rules.left t q ≤ suc (m'.left q)) (λ h b. own b)
+      left = at_party p (λ q. q < pl.parties → activity_of (rules.means t) q ≢ idle → rules.left t q ≤ suc (m'.left q)) (λ h. own)
           (λ q ne h b. others q ne h (busy_back pl q (m.link q) (m'.link q) (activity_of M q) (activity_of (rules.means t) q) (m.job q) (ok.fits.activities q h)
           (does_at F q (m.job q) h (same q ne)) b));
     }
@@ -194,11 +198,7 @@ module _ {R : Type 0} (rules : Rules R) (pl : Plan) (w : ℕ) where
         idle_rests e = does_at ok.fits p rests in_p e
 
         others : (q : ℕ) → q ≢ p → q < pl.parties → activity_of M q ≢ idle → rules.left t q ≤ suc (m.left q)
-        others q ne h b = go (rules.stays s p q ok.sound (in_plan p in_p) (in_plan q h) ne busy)
-          where
-            go : (rules.left t q ≤ rules.left s q) ⊎ ((c : ℕ) × Stores M (rules.means t) p c × is_on M (activity_of M q) c) → rules.left t q ≤ suc (m.left q)
-            go (inl l) = let k = ok.left q h b in omega arith
-            go (inr z) = absurd (z.1.comes.waits_no_more (rw e_m z.1.comes.waited))
+        others = kept_left (λ c z. z.comes.waits_no_more (rw e_m z.comes.waited))
 
     others_updated : (f : Option ℕ) (l : ℕ → ℕ) (n : ℕ) → Others w m p f l → Others w m p f (updated l p n)
     others_updated none l n o = λ q ne. rw (updated_other l p n q ne) (o q ne)
@@ -275,16 +275,9 @@ module _ {R : Type 0} (rules : Rules R) (pl : Plan) (w : ℕ) where
           channel = none;
           then = m';
           turn = rw e_s (turn_end j.0 j.1 j.2);
-          shelved = close m' F' (λ q ne. updated_other m.job p _ q ne) (λ q ne h b. bound q ne h b) (λ b. absurd (b rest));
+          shelved = close m' F' (λ q ne. updated_other m.job p _ q ne) (kept_left (λ c z. let e = z.comes.waited in cc)) (λ b. absurd (b rest));
           puts = λ c e. absurd cc;
         }
-      where
-        bound : (q : ℕ) → q ≢ p → q < pl.parties → activity_of M q ≢ idle → rules.left t q ≤ suc (m.left q)
-        bound q ne h b = go (rules.stays s p q ok.sound (in_plan p in_p) (in_plan q h) ne busy)
-          where
-            go : (rules.left t q ≤ rules.left s q) ⊎ ((c : ℕ) × Stores M (rules.means t) p c × is_on M (activity_of M q) c) → rules.left t q ≤ suc (m.left q)
-            go (inl l) = let k = ok.left q h b in omega arith
-            go (inr z) = absurd (let e = z.1.comes.waited in cc)
 
     by_turn : (a : Answer) (M' : Meaning R) → Turned rules.blank M p a M' → rules.answer s p ≡ a → rules.means t ≡ M' → TurnMatched s m p
     by_turn a M' (alters_nothing) e_a e_m = still e_a e_m
