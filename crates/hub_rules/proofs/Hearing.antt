@@ -1,5 +1,5 @@
 -- What the model hears of a call, and what that tells of the call.
-use Rattle.std.proofs.Common.{◌≡◌, ℕ, ◌<◌, ◌≤◌, Bool, true, false, ◌⊎◌, List, [], length, get_or, sym, refl, ap, ◌∙◌, inl, inr, append-nil, arith}
+use Rattle.std.proofs.Common.{◌≡◌, ℕ, ◌<◌, ◌≤◌, Bool, true, false, ◌⊎◌, List, [], length, get_or, sym, refl, ap, inl, inr, append-nil, arith}
 use Rattle.plan.specs.Refusals.{Outcome, accepted, refused, Test, unless_refused}
 use Rattle.reading.specs.Kinds.{KindOf}
 use Rattle.shelf.specs.Rules.{Rules}

@@ -1,5 +1,5 @@
 -- A hub's turn starts the shelf operation that its party is at, exactly and in the model.
-use Rattle.std.proofs.Common.{◌≡◌, ℕ, suc, ◌-◌, ◌<◌, ◌≤◌, Bool, true, false, not, ◌≢◌, get_or, refl, ap, ◌∙◌, arith, length-set}
+use Rattle.std.proofs.Common.{◌≡◌, ℕ, suc, ◌-◌, ◌<◌, ◌≤◌, true, false, ◌≢◌, get_or, refl, ap, ◌∙◌, arith, length-set}
 use Rattle.std.proofs.lemmas.Bool.{lt-ltb, cond-false}
 use Rattle.reading.specs.Kinds.{KindOf}
 use Rattle.plan.specs.declared.check.Plan.{Plan}
@@ -19,7 +19,7 @@ use Rattle.history.proofs.Basics.{updated_same, updated_other, at_party}
 use Rattle.arrayvec.specs.ArrayVec.{ArrayVec}
 use Rattle.hub_rules.specs.declared.parts.Party.{Party}
 use Rattle.hub_rules.specs.declared.parts.Party.TheVariants.{Idle, AmendmentTake, AmendmentPut, PictureTake, PictureCheck}
-use Rattle.hub_rules.specs.Hub.{accepted_or, taken_by, started, begun}
+use Rattle.hub_rules.specs.Hub.{taken_by, started, begun}
 use Rattle.hub_rules.proofs.Match.{order_of, stage_of, flat_operation, CanWait, Fits, Shelved, does_at, link_is}
 use Rattle.hub_rules.proofs.Force.{redo, relink, relink_ready}
 use Rattle.hub_rules.proofs.Turning.{busy_back, job_idle}
