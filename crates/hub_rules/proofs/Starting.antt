@@ -145,7 +145,7 @@ module _ {R : Type 0} (kind : KindOf R) (rules : Rules R) (pl : Plan) (w : ℕ) 
           let value = kind.amended rd.reading v in
           let law = rules.puts s p (flat (rules.plan s) p 0) value ok.sound in_plan (own_flat (rules.plan s) p 0 (in_links 0 in_0)) free (not_vacant 0 in_0 rd) in
           begin (AmendmentPut c v) (put 0 value) m.link (rules.start_put s p (flat (rules.plan s) p 0) value)
-          (rw (taken_is rd in_0) (started_is (C.Put p 0 value) (full_tests 0 in_0 rd)))
+          (ap (λ (r : R). started kind rules s p (C.Put p 0 (kind.amended r v))) (taken_is rd in_0) ∙ started_is (C.Put p 0 value) (full_tests 0 in_0 rd))
           (want_put c v rd.channel rd.reading rd.is_live rd.is) (start_put 0 value rd.channel rd.reading rd.is_live rd.is) law.0
           (rw (law.1, ok.plan) (waiting (put 0 value) (in_0, rd)))
 
