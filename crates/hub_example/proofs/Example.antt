@@ -1,103 +1,59 @@
 -- The example, by computation.
-use Rattle.std.proofs.Common.{◌≡◌, ℕ, zero, suc, ◌<◌, ◌≢◌, ◌⊎◌, List, [], ◌∷◌, get_or, replicate, refl, subst, inl, inr, ⊎_elim, arith}
-use Rattle.std.proofs.lemmas.Bool.{cases_eq}
-use Rattle.plan.specs.Refusals.{Outcome, accepted}
+use Rattle.std.proofs.Common.{◌≡◌, ℕ, ◌<◌, Bool, true, false, ◌&&◌, eqb, ltb, replicate, refl, ap, ◌∙◌, arith}
+use Rattle.std.proofs.lemmas.Bool.{both_ways, lt-ltb, eq-eqb, and_from, agree_below, agree_below_at}
+use borrow.Author.Count.{below_none, below_more}
+use Rattle.plan.specs.Refusals.{Outcome, accepted, refused}
 use Rattle.plan.specs.Plans.{need}
 use Rattle.plan.specs.declared.check.ShelfType.TheVariants.{Flag}
 use Rattle.reading.specs.Tallies.{tally_kind}
-use Rattle.shelf.specs.Meaning.{waits, put, idle}
 use Rattle.flag_rules.proofs.Made.{made_fresh}
-use Rattle.history.specs.Board.{amendment, picture}
 use Rattle.hub_rules.specs.declared.parts.Progress.{Progress}
 use Rattle.hub_rules.specs.declared.parts.Progress.TheVariants.{Run, Done}
-use Rattle.hub_rules.specs.Hub.{Picture, Turn, Look, looked}
-use Rattle.hub_rules.specs.Law.{DoneAt, hub_at}
-use Rattle.hub_example.specs.Past.{tally, rules, plan, start, calls, Finishes, ExamplePast}
+use Rattle.hub_rules.specs.Hub.{Call, Amendment, Picture, Turn, Release, Look, turn_answer}
+use Rattle.hub_rules.specs.Law.{DoneAt, call_at, hub_at}
+use Rattle.hub_example.specs.Past.{tally, rules, plan, start, calls, ExamplePast}
 
-runs_on : ◌≡◌ {A = Outcome Progress} (accepted Run) (accepted Done) → ⊥
-runs_on e = let z : ◌≡◌ {A = ℕ} 0 1 = cc in omega arith
+-- whether call t is a turn of party p that is done
+abbrev is_turn_of : ℕ → Call → Bool
+is_turn_of p (Amendment q c w) = false
+is_turn_of p (Picture q cs) = false
+is_turn_of p (Turn q) = eqb q p
+is_turn_of p (Release q) = false
+is_turn_of p (Look q i) = false
 
-not_turn_picture : (q p : ℕ) (cs : List ℕ) → Picture q cs ≡ Turn p → ⊥
-not_turn_picture q p cs e = let z : ◌≡◌ {A = ℕ} 0 1 = cc in omega arith
+abbrev says_done : Outcome Progress → Bool
+says_done (accepted Run) = false
+says_done (accepted Done) = true
+says_done (refused n) = false
 
-not_turn_look : (q i p : ℕ) → Look q i ≡ Turn p → ⊥
-not_turn_look q i p e = let z : ◌≡◌ {A = ℕ} 0 1 = cc in omega arith
+abbrev is_done : ℕ → ℕ → Bool
+is_done p t = is_turn_of p (call_at tally_kind rules start calls t) && says_done (turn_answer tally_kind rules (hub_at tally_kind rules start calls t) p)
 
-not_turn_of : (q p : ℕ) → q ≢ p → Turn q ≡ Turn p → ⊥
-not_turn_of q p ne e = ne (cc)
+is_done_where : (p t : ℕ) → DoneAt tally_kind rules start calls p t → is_done p t ≡ true
+is_done_where p t d = and_from _ _ (ap (is_turn_of p) d.0 ∙ eq-eqb p p refl) (ap says_done d.1)
 
--- no turn ends the operation before the one that does
-first_amendment : (t : ℕ) → 0 < t → t < 4 → DoneAt tally_kind rules start calls 0 t → ⊥
-first_amendment zero a b d = omega arith
-first_amendment (suc zero) a b d = not_turn_picture 1 0 (0 ∷ 1 ∷ []) d.0
-first_amendment (suc (suc zero)) a b d = runs_on d.1
-first_amendment (suc (suc (suc zero))) a b d = not_turn_of 1 0 (omega arith) d.0
-first_amendment (suc (suc (suc (suc t)))) a b d = omega arith
-
-first_picture : (t : ℕ) → 1 < t → t < 10 → DoneAt tally_kind rules start calls 1 t → ⊥
-first_picture zero a b d = omega arith
-first_picture (suc zero) a b d = omega arith
-first_picture (suc (suc zero)) a b d = runs_on d.1
-first_picture (suc (suc (suc zero))) a b d = runs_on d.1
-first_picture (suc (suc (suc (suc zero)))) a b d = runs_on d.1
-first_picture (suc (suc (suc (suc (suc zero))))) a b d = runs_on d.1
-first_picture (suc (suc (suc (suc (suc (suc zero)))))) a b d = runs_on d.1
-first_picture (suc (suc (suc (suc (suc (suc (suc zero))))))) a b d = runs_on d.1
-first_picture (suc (suc (suc (suc (suc (suc (suc (suc zero)))))))) a b d = runs_on d.1
-first_picture (suc (suc (suc (suc (suc (suc (suc (suc (suc zero))))))))) a b d = runs_on d.1
-first_picture (suc (suc (suc (suc (suc (suc (suc (suc (suc (suc t)))))))))) a b d = omega arith
-
-second_amendment : (t : ℕ) → 11 < t → t < 14 → DoneAt tally_kind rules start calls 0 t → ⊥
-second_amendment t a b d = ⊎_elim (λ (e : t ≡ 12). not_turn_look 1 0 0 (subst (DoneAt tally_kind rules start calls 0) e d).0)
-    (λ (e : t ≡ 13). runs_on (subst (DoneAt tally_kind rules start calls 0) e d).1) (which (cases_eq t 12))
-  where
-    which : (t ≡ 12) ⊎ (t ≡ 12 → ⊥) → (t ≡ 12) ⊎ (t ≡ 13)
-    which (inl e) = inl e
-    which (inr n) = inr (omega (arith, n))
-
-amends : Finishes 0 0 4 (amendment 0 5) (tally 0 ∷ [])
-amends = record {
-  operation = record { in_past = omega arith; is_order = refl; is_accepted = refl };
-  ends = record { in_past = omega arith; later = omega arith; is_done = (refl, refl); first = first_amendment };
-  looks = record { size = refl; looks = looks };
-}
-  where
-    looks : (i : ℕ) → i < 1 → looked tally_kind rules (hub_at tally_kind rules start calls 5) 0 i ≡ accepted (get_or (tally 0 ∷ []) i (tally 0))
-    looks zero h = refl
-    looks (suc i) h = absurd (omega arith)
-
-pictures : Finishes 1 1 10 (picture (0 ∷ 1 ∷ [])) (tally 5 ∷ tally 0 ∷ [])
-pictures = record {
-  operation = record { in_past = omega arith; is_order = refl; is_accepted = refl };
-  ends = record { in_past = omega arith; later = omega arith; is_done = (refl, refl); first = first_picture };
-  looks = record { size = refl; looks = looks };
-}
-  where
-    looks : (i : ℕ) → i < 2 → looked tally_kind rules (hub_at tally_kind rules start calls 11) 1 i ≡ accepted (get_or (tally 5 ∷ tally 0 ∷ []) i (tally 0))
-    looks zero h = refl
-    looks (suc zero) h = refl
-    looks (suc (suc i)) h = absurd (omega arith)
-
-amends_again : Finishes 0 11 14 (amendment 1 7) (tally 0 ∷ [])
-amends_again = record {
-  operation = record { in_past = omega arith; is_order = refl; is_accepted = refl };
-  ends = record { in_past = omega arith; later = omega arith; is_done = (refl, refl); first = second_amendment };
-  looks = record { size = refl; looks = looks };
-}
-  where
-    looks : (i : ℕ) → i < 1 → looked tally_kind rules (hub_at tally_kind rules start calls 15) 0 i ≡ accepted (get_or (tally 0 ∷ []) i (tally 0))
-    looks zero h = refl
-    looks (suc i) h = absurd (omega arith)
-
-not_waiting : {R : Type 0} (j : ℕ) (r : R) → idle ≡ waits (put j r) → ⊥
-not_waiting j r e = let z : ◌≡◌ {A = ℕ} 0 1 = cc in omega arith
+-- no turn between calls k and e is one of party p that is done
+none_between : (p k e : ℕ) → agree_below (λ t. ltb k t && is_done p t) (λ t. false) e ≡ true → (t : ℕ) → k < t → t < e → DoneAt tally_kind rules start calls p t → ⊥
+none_between p k e none t a b d = both_ways _ (agree_below_at (λ t. ltb k t && is_done p t) (λ t. false) e t none b) (and_from _ _ (lt-ltb k t a) (is_done_where p t d))
 
 pub example_past : ExamplePast
 example_past = record {
   fresh = made_fresh (tally 0) plan (replicate (need Flag plan) (tally 9)) plan refl;
-  amends = amends;
-  pictures = pictures;
-  amends_again = amends_again;
+  amends = record {
+    operation = record { in_past = omega arith; is_order = refl; is_accepted = refl };
+    ends = record { in_past = omega arith; later = omega arith; is_done = (refl, refl); first = none_between 0 0 4 refl };
+    looks = record { size = refl; looks = below_more _ 0 (below_none _) refl };
+  };
+  pictures = record {
+    operation = record { in_past = omega arith; is_order = refl; is_accepted = refl };
+    ends = record { in_past = omega arith; later = omega arith; is_done = (refl, refl); first = none_between 1 1 10 refl };
+    looks = record { size = refl; looks = below_more _ 1 (below_more _ 0 (below_none _) refl) refl };
+  };
+  amends_again = record {
+    operation = record { in_past = omega arith; is_order = refl; is_accepted = refl };
+    ends = record { in_past = omega arith; later = omega arith; is_done = (refl, refl); first = none_between 0 11 14 refl };
+    looks = record { size = refl; looks = below_more _ 0 (below_none _) refl };
+  };
   runs = record { in_past = omega arith; is_order = refl; is_accepted = refl };
   comes_into_force = record {
     party = 0;
@@ -105,7 +61,7 @@ example_past = record {
     word = 5;
     is_turn = refl;
     amends = refl;
-    stores = record { link = 0; reading = tally 5; seen = tally 0; comes = record { waited = refl; waits_no_more = not_waiting 0 (tally 5) }; alive = refl };
+    stores = record { link = 0; reading = tally 5; seen = tally 0; comes = record { waited = refl; waits_no_more = λ e. cc }; alive = refl };
   };
   readings = refl;
 }

@@ -7,6 +7,7 @@ ghost use Rattle.hub_example.specs.Refusals.{Refuses};
 
 /// Does nothing; promises that in the example two amendments and a picture finish with these answers, the picture after
 /// it began again.
+#[tactic(auto, using(crate::proofs::Example::example_past))]
 pub fn operations_finish()
     ensures { ExamplePast }
 {}

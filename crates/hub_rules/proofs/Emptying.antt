@@ -1,10 +1,10 @@
 -- All links of a party emptied, exactly and in the model.
-use Rattle.std.proofs.Common.{◌≡◌, ℕ, zero, suc, ◌<◌, ◌≤◌, ◌≢◌, List, length, get_or, set, sym, refl, ap, ◌∙◌, subst, arith, length-set, get_or-set_other, get_or-set_same}
+use Rattle.std.proofs.Common.{◌≡◌, ℕ, zero, suc, ◌<◌, ◌≤◌, ◌≢◌, length, refl, ap, ◌∙◌, arith, length-set, get_or-set_other, get_or-set_same}
 use Rattle.std.proofs.lemmas.Bool.{lt-ltb}
 use Rattle.reading.specs.Kinds.{KindOf}
 use Rattle.plan.specs.declared.check.Plan.{Plan}
 use Rattle.plan.specs.Plans.{width}
-use Rattle.shelf.specs.Meaning.{flat, Link, vacant, Activity, idle, Meaning, link_at, activity_of, linking}
+use Rattle.shelf.specs.Meaning.{flat, vacant, idle, Meaning, link_at, activity_of, linking}
 use Rattle.shelf.specs.Rules.{Rules}
 use Rattle.std.specs.List.{AllByRecursion}
 use Rattle.shelf.proofs.Passing.{Passed, passes}
@@ -17,7 +17,6 @@ use Rattle.history.proofs.Basics.{updated_same, updated_other, at_party}
 use Rattle.hub_rules.specs.Hub.{emptied}
 use Rattle.hub_rules.proofs.Links.{flat_below, flat_apart, flat_other}
 use Rattle.hub_rules.proofs.Match.{DoesAs, Shelved}
-use Rattle.hub_rules.proofs.Force.{does_of}
 use Rattle.hub_rules.proofs.Turning.{job_idle}
 
 module _ {R : Type 0} (kind : KindOf R) (rules : Rules R) (pl : Plan) (w : ℕ) (s : rules.State) (m : Shelf R) (ok : Shelved rules pl w s m)
@@ -39,30 +38,26 @@ module _ {R : Type 0} (kind : KindOf R) (rules : Rules R) (pl : Plan) (w : ℕ) 
 
   one_more : (n : ℕ) (t : rules.State) → n < pl.links → Emptied n t → Emptied (suc n) (C.after rules t (C.Drop p n))
   one_more n t in_n E =
-      let in_plan : p < (rules.plan t).parties = subst (λ (x : Plan). p < x.parties) (sym E.plan) in_p in
-      let in_links : n < (rules.plan t).links = subst (λ (x : Plan). n < x.links) (sym E.plan) in_n in
-      let free' : activity_of (rules.means t) p ≡ idle = ap (λ (ds : List (Activity R)). get_or ds p idle) E.activities ∙ free in
+      let in_plan : p < (rules.plan t).parties = rw E.plan in_p in
+      let in_links : n < (rules.plan t).links = rw E.plan in_n in
+      let free' : activity_of (rules.means t) p ≡ idle = rw E.activities free in
       let law = rules.drops t p (flat (rules.plan t) p n) E.sound in_plan (own_flat (rules.plan t) p n in_links) free' in
-      let e_m : rules.means (rules.dropped t p (flat (rules.plan t) p n)) ≡ linking (rules.means t) (flat pl p n) vacant = law.1 ∙ ap (λ (x : Plan). linking (rules.means t) (flat x p n) vacant) E.plan in
-      let links_are : (rules.means (rules.dropped t p (flat (rules.plan t) p n))).links ≡ set (rules.means t).links (flat pl p n) vacant = ap (λ (x : Meaning R). x.links) e_m in
+      let e_m : rules.means (rules.dropped t p (flat (rules.plan t) p n)) ≡ linking (rules.means t) (flat pl p n) vacant = law.1 ∙ rw E.plan refl in
       let tests : AllByRecursion Passed (C.tests_of (rules.plan t) (rules.means t) (C.Drop p n)) = (lt-ltb _ _ in_plan, (ap is_idle free', (lt-ltb _ _ in_links, tt))) in
-      subst (Emptied (suc n)) (sym (ap (C.leaves t) (passes (C.tests_of (rules.plan t) (rules.means t) (C.Drop p n)) (rules.dropped t p (flat (rules.plan t) p n)) tests)))
+      rw (passes (C.tests_of (rules.plan t) (rules.means t) (C.Drop p n)) (rules.dropped t p (flat (rules.plan t) p n)) tests)
       (record {
         sound = law.0.sound';
         plan = law.0.plan' ∙ E.plan;
         patience = law.0.patience' ∙ E.patience;
-        left = λ q ne h. let a = law.0.left' q ne (subst (λ (x : Plan). q < x.parties) (sym E.plan) h) in let b = E.left q ne h in omega arith;
-        readings = ap (λ (x : Meaning R). x.readings) e_m ∙ E.readings;
-        activities = ap (λ (x : Meaning R). x.activities) e_m ∙ E.activities;
-        size = ap length links_are ∙ (length-set (rules.means t).links (flat pl p n) vacant ∙ E.size);
+        left = λ q ne h. let a = law.0.left' q ne (rw E.plan h) in let b = E.left q ne h in omega arith;
+        readings = rw e_m E.readings;
+        activities = rw e_m E.activities;
+        size = rw e_m (length-set (rules.means t).links (flat pl p n) vacant ∙ E.size);
         gone = at_party n (λ i. i < suc n → link_at (rules.means (rules.dropped t p (flat (rules.plan t) p n))) (flat pl p i) ≡ vacant)
-            (λ h. ap (λ (x : List (Link R)). get_or x (flat pl p n) vacant) links_are ∙ get_or-set_same (rules.means t).links (flat pl p n) vacant vacant (let a = E.size in let b = flat_below pl p n in_p in_n in omega arith))
-            (λ i ne h. ap (λ (x : List (Link R)). get_or x (flat pl p i) vacant) links_are ∙ (get_or-set_other (rules.means t).links (flat pl p n) (flat pl p i) vacant vacant (flat_other pl p n i ne) ∙ E.gone i (below i n ne h)));
-        kept = λ q i ne h. ap (λ (x : List (Link R)). get_or x (flat pl q i) vacant) links_are ∙ (get_or-set_other (rules.means t).links (flat pl p n) (flat pl q i) vacant vacant (flat_apart pl p q n i ne in_n h) ∙ E.kept q i ne h);
+            (λ h. rw e_m (get_or-set_same (rules.means t).links (flat pl p n) vacant vacant (let a = E.size in let b = flat_below pl p n in_p in_n in omega arith)))
+            (λ i ne h. rw (e_m, get_or-set_other (rules.means t).links (flat pl p n) (flat pl p i) vacant vacant (flat_other pl p n i ne)) (E.gone i (omega (arith, ne))));
+        kept = λ q i ne h. rw (e_m, get_or-set_other (rules.means t).links (flat pl p n) (flat pl q i) vacant vacant (flat_apart pl p q n i ne in_n h)) (E.kept q i ne h);
       })
-    where
-      below : (i n : ℕ) → i ≢ n → i < suc n → i < n
-      below i n ne h = omega (arith, ne)
 
   all_emptied : (n : ℕ) → n ≤ pl.links → Emptied n (emptied kind rules s p n)
   all_emptied zero h = record {
@@ -84,20 +79,20 @@ module _ {R : Type 0} (kind : KindOf R) (rules : Rules R) (pl : Plan) (w : ℕ) 
       let t = emptied kind rules s p pl.links in
       let E = all_emptied pl.links (omega arith) in
       let jobs : m.job p ≡ rests = job_idle pl p (m.link p) (activity_of M p) (m.job p) (ok.fits.activities p in_p) free in
-      let activity_same : (q : ℕ) → activity_of (rules.means t) q ≡ activity_of M q = λ q. ap (λ (ds : List (Activity R)). get_or ds q idle) E.activities in
+      let activity_same : (q : ℕ) → activity_of (rules.means t) q ≡ activity_of M q = λ q. rw E.activities refl in
       record {
         sound = E.sound;
         plan = E.plan;
         patience = E.patience;
         fits = record {
           sizes = record { readings = ap length E.readings ∙ ok.fits.sizes.readings; links = E.size; activities = ap length E.activities ∙ ok.fits.sizes.activities };
-          readings = λ c h. ap (λ (rs : List R). get_or rs c rules.blank) E.readings ∙ ok.fits.readings c h;
+          readings = λ c h. rw E.readings (ok.fits.readings c h);
           links = at_party p (λ q. (i : ℕ) → q < pl.parties → i < pl.links → link_at (rules.means t) (flat pl q i) ≡ (cleared m p).link q i)
-              (λ i a b. E.gone i b ∙ (sym (ap (λ (f : ℕ → Link R). f i) (updated_same m.link p (λ j. vacant)))))
-              (λ q ne i a b. E.kept q i ne b ∙ (ok.fits.links q i a b ∙ (sym (ap (λ (f : ℕ → Link R). f i) (updated_other m.link p (λ j. vacant) q ne)))));
+              (λ i a b. rw updated_same (E.gone i b))
+              (λ q ne i a b. rw (updated_other m.link p (λ j. vacant) q ne) (E.kept q i ne b ∙ ok.fits.links q i a b));
           activities = at_party p (λ q. q < pl.parties → DoesAs pl q ((cleared m p).link q) (activity_of (rules.means t) q) (m.job q))
-              (λ h. subst (DoesAs pl p ((cleared m p).link p) (activity_of (rules.means t) p)) (sym jobs) (activity_same p ∙ free))
-              (λ q ne h. does_of rules.blank pl q (m.job q) (sym (updated_other m.link p (λ j. vacant) q ne)) (sym (activity_same q)) (ok.fits.activities q h));
+              (λ h. rw jobs (activity_same p ∙ free))
+              (λ q ne h. rw (updated_other m.link p (λ j. vacant) q ne, activity_same q) (ok.fits.activities q h));
         };
         left = at_party p (λ q. q < pl.parties → activity_of (rules.means t) q ≢ idle → rules.left t q ≤ suc (m.left q))
             (λ h b. absurd (b (activity_same p ∙ free)))

@@ -1,15 +1,15 @@
 -- A waiting operation comes into force in the meaning as in the model.
-use Rattle.std.proofs.Common.{◌≡◌, ℕ, ◌<◌, Bool, true, false, ◌≢◌, List, length, get_or, set, sym, refl, ap, ◌∙◌, subst, arith, length-set, get_or-set_other, get_or-set_same}
+use Rattle.std.proofs.Common.{◌≡◌, ℕ, ◌<◌, Bool, true, false, ◌≢◌, List, length, get_or, set, sym, refl, ap, ◌∙◌, arith, length-set, get_or-set_other, get_or-set_same}
 use mathlib.Core.Option.{Option, none, some}
 use Rattle.std.proofs.lemmas.List.{length-map, get_or-map}
 use Rattle.plan.specs.declared.check.Plan.{Plan}
-use Rattle.shelf.specs.Meaning.{flat, Link, vacant, holds, Operation, take, put, check, Activity, idle, waits, in_force, Meaning, link_at, activity_of, does, break_on, put_on, verdict, brought, Sizes}
+use Rattle.shelf.specs.Meaning.{flat, Link, vacant, holds, Operation, take, put, check, Activity, idle, waits, in_force, Meaning, link_at, activity_of, does, break_on, brought, Sizes}
 use Rattle.history.specs.Board.{updated}
 use Rattle.history.proofs.Shelf.{Said, taken, stored, missed, live, broken, Job, rests, awaits, forced, Shelf, set_link, Forces, force_take, force_put, force_miss, force_live, force_broken}
 use Rattle.history.proofs.Fitting.{Ready, break_ready}
-use Rattle.history.proofs.Basics.{never, updated_same, updated_other, at_party}
+use Rattle.history.proofs.Basics.{updated_same, updated_other, at_party}
 use Rattle.hub_rules.proofs.Links.{flat_below, flat_apart, flat_other}
-use Rattle.hub_rules.proofs.Match.{answer_of, flat_operation, CanWait, DoesAs, Fits}
+use Rattle.hub_rules.proofs.Match.{answer_of, flat_operation, CanWait, DoesAs, Fits, does_at}
 
 -- party p's waiting put is on a live link of channel c
 pub record WaitsToStore {R : Type 0} (M : Meaning R) (p c : ℕ) : Type 0 where
@@ -20,23 +20,16 @@ pub record WaitsToStore {R : Type 0} (M : Meaning R) (p c : ℕ) : Type 0 where
   pub alive : link_at M link ≡ holds c seen true
 
 module _ {R : Type 0} (blank : R) (pl : Plan) where
-  -- a party's part depends on its links only where it waits, and there only on their not being empty
-  pub does_of : (p : ℕ) {l l' : ℕ → Link R} {d d' : Activity R} (J : Job R) → l ≡ l' → d ≡ d' → DoesAs pl p l d J → DoesAs pl p l' d' J
-  does_of p {l} {l'} {d} {d'} J e f h = subst (λ (x : ℕ → Link R). DoesAs pl p x d' J) e (subst (λ (x : Activity R). DoesAs pl p l x J) f h)
-
-  pub does_job : (p : ℕ) (l : ℕ → Link R) (d : Activity R) {J J' : Job R} → J ≡ J' → DoesAs pl p l d J → DoesAs pl p l d J'
-  does_job p l d e h = subst (DoesAs pl p l d) e h
-
   -- party p does something else; its links may have changed, those of the others not
-  pub redo : (M : Meaning R) (link link' : ℕ → ℕ → Link R) (job : ℕ → Job R) (p : ℕ) (d : Activity R) (J : Job R) (ds : List (Activity R))
+  pub redo : (link link' : ℕ → ℕ → Link R) (job : ℕ → Job R) (p : ℕ) (d : Activity R) (J : Job R) (ds : List (Activity R))
       → p < pl.parties → length ds ≡ pl.parties
       → ((q : ℕ) → q ≢ p → q < pl.parties → DoesAs pl q (link q) (get_or ds q idle) (job q)) → ((q : ℕ) → q ≢ p → (i : ℕ) → Ready (link q i) → Ready (link' q i))
       → DoesAs pl p (link' p) d J
       → (q : ℕ) → q < pl.parties → DoesAs pl q (link' q) (get_or (set ds p d) q idle) (updated job p J q)
-  redo M link link' job p d J ds in_p size others ready here =
+  redo link link' job p d J ds in_p size others ready here =
       at_party p (λ q. q < pl.parties → DoesAs pl q (link' q) (get_or (set ds p d) q idle) (updated job p J q))
-      (λ h. does_job p (link' p) (get_or (set ds p d) p idle) (sym (updated_same job p J)) (does_of p {l = link' p} J refl (sym (get_or-set_same ds p d idle (omega arith))) here))
-      (λ q ne h. does_job q (link' q) (get_or (set ds p d) q idle) (sym (updated_other job p J q ne)) (does_of q {l = link' q} (job q) refl (sym (get_or-set_other ds p q d idle ne)) (kept q ne (get_or ds q idle) (job q) (others q ne h))))
+      (λ h. rw (updated_same job p J, get_or-set_same ds p d idle (omega arith)) here)
+      (λ q ne h. rw (updated_other job p J q ne, get_or-set_other ds p q d idle ne) (kept q ne (get_or ds q idle) (job q) (others q ne h)))
     where
       act_kept : (q : ℕ) → q ≢ p → (a : Operation R) → CanWait pl (link q) a → CanWait pl (link' q) a
       act_kept q ne (take i c) ok = ok
@@ -55,19 +48,13 @@ module _ {R : Type 0} (blank : R) (pl : Plan) where
   relink M link p i l sz in_p in_i h =
       at_party p (λ q. (j : ℕ) → q < pl.parties → j < pl.links → get_or (set M.links (flat pl p i) l) (flat pl q j) vacant ≡ set_link link p i l q j)
       (at_party i (λ j. p < pl.parties → j < pl.links → get_or (set M.links (flat pl p i) l) (flat pl p j) vacant ≡ set_link link p i l p j)
-      (λ a b. get_or-set_same M.links (flat pl p i) l vacant (let e = sz.links in let k = flat_below pl p i in_p in_i in omega arith) ∙ (sym (here_same)))
-      (λ j ne a b. get_or-set_other M.links (flat pl p i) (flat pl p j) l vacant (flat_other pl p i j ne) ∙ (h p j a b ∙ (sym (here_other j ne)))))
-      (λ q ne j a b. get_or-set_other M.links (flat pl p i) (flat pl q j) l vacant (flat_apart pl p q i j ne in_i b) ∙ (h q j a b ∙ (sym (ap (λ (f : ℕ → Link R). f j) (updated_other link p (updated (link p) i l) q ne)))))
-    where
-      here_same : set_link link p i l p i ≡ l
-      here_same = ap (λ (f : ℕ → Link R). f i) (updated_same link p (updated (link p) i l)) ∙ updated_same (link p) i l
-
-      here_other : (j : ℕ) → j ≢ i → set_link link p i l p j ≡ link p j
-      here_other j ne = ap (λ (f : ℕ → Link R). f j) (updated_same link p (updated (link p) i l)) ∙ updated_other (link p) i l j ne
+      (λ a b. rw (updated_same, updated_same) (get_or-set_same M.links (flat pl p i) l vacant (let e = sz.links in let k = flat_below pl p i in_p in_i in omega arith)))
+      (λ j ne a b. rw (updated_same, updated_other (link p) i l j ne, get_or-set_other M.links (flat pl p i) (flat pl p j) l vacant (flat_other pl p i j ne)) (h p j a b)))
+      (λ q ne j a b. rw (updated_other link p (updated (link p) i l) q ne, get_or-set_other M.links (flat pl p i) (flat pl q j) l vacant (flat_apart pl p q i j ne in_i b)) (h q j a b))
 
   -- other parties' links are as they were
   pub relink_ready : (link : ℕ → ℕ → Link R) (p i : ℕ) (l : Link R) (q : ℕ) → q ≢ p → (j : ℕ) → Ready (link q j) → Ready (set_link link p i l q j)
-  relink_ready link p i l q ne j r = subst Ready (sym (ap (λ (f : ℕ → Link R). f j) (updated_other link p (updated (link p) i l) q ne))) r
+  relink_ready link p i l q ne j r = rw (updated_other link p (updated (link p) i l) q ne) r
 
   -- whether the operation is a put on a live link, and then of which channel
   abbrev pub StoresOn : Meaning R → ℕ → Option ℕ → Type 0
@@ -88,7 +75,7 @@ module _ {R : Type 0} (blank : R) (pl : Plan) where
     -- the doings of a meaning in which only party p's was changed
     redone : (link' : ℕ → ℕ → Link R) (d : Activity R) (J : Job R) → ((q : ℕ) → q ≢ p → (i : ℕ) → Ready (m.link q i) → Ready (link' q i)) → DoesAs pl p (link' p) d J
         → (q : ℕ) → q < pl.parties → DoesAs pl q (link' q) (get_or (set M.activities p d) q idle) (updated m.job p J q)
-    redone link' d J ready here = redo M m.link link' m.job p d J M.activities in_p F.sizes.activities (λ q ne h. F.activities q h) ready here
+    redone link' d J ready here = redo m.link link' m.job p d J M.activities in_p F.sizes.activities (λ q ne h. F.activities q h) ready here
 
     size_activities : (d : Activity R) → length (set M.activities p d) ≡ pl.parties
     size_activities d = length-set M.activities p d ∙ F.sizes.activities
@@ -104,11 +91,10 @@ module _ {R : Type 0} (blank : R) (pl : Plan) where
           fits = record {
             sizes = record { readings = F.sizes.readings; links = length-set M.links (flat pl p i) _ ∙ F.sizes.links; activities = size_activities (in_force (answer_of taken)) };
             readings = F.readings;
-            links = λ q j a b. ap (λ (r : R). get_or (set M.links (flat pl p i) (holds c r true)) (flat pl q j) vacant) (F.readings c in_c)
-                ∙ relink M m.link p i (holds c (m.reading c) true) F.sizes in_p in_i F.links q j a b;
+            links = λ q j a b. rw (F.readings c in_c) (relink M m.link p i (holds c (m.reading c) true) F.sizes in_p in_i F.links q j a b);
             activities = redone (set_link m.link p i (holds c (m.reading c) true)) (in_force (answer_of taken)) (forced (take i c) taken) (relink_ready m.link p i _) refl;
           };
-          stored_on = λ c' z. never (let e = z.puts in cc (e, e_d));
+          stored_on = λ c' z. cc;
         }
 
     -- the meaning stays but for party p's doing
@@ -129,7 +115,7 @@ module _ {R : Type 0} (blank : R) (pl : Plan) where
           reading' = updated m.reading c v;
           link' = λ q j. break_on c (m.link q j);
           forces = force_put i c v r e;
-          fits = subst (λ (t : Link R). Fits blank pl (put_on M p v t) (updated m.reading c v) (λ q j. break_on c (m.link q j)) (updated m.job p (forced (put i v) stored))) (sym e_l)
+          fits = rw e_l
               (record {
                 sizes = record { readings = length-set M.readings c v ∙ F.sizes.readings; links = length-map M.links (break_on c) ∙ F.sizes.links; activities = size_activities (in_force (answer_of stored)) };
                 readings = at_party c (λ d. d < pl.channels → get_or (set M.readings c v) d blank ≡ updated m.reading c v d)
@@ -149,15 +135,12 @@ module _ {R : Type 0} (blank : R) (pl : Plan) where
           reading' = m.reading;
           link' = m.link;
           forces = force_miss i c v r e;
-          fits = subst (λ (t : Link R). Fits blank pl (put_on M p v t) m.reading m.link (updated m.job p (forced (put i v) missed))) (sym e_l) (told (put i v) missed);
+          fits = rw e_l (told (put i v) missed);
           stored_on = λ c' z. broken_put c' z e_l;
         }
       where
         broken_put : (c' : ℕ) → WaitsToStore M p c' → link_at M (flat pl p i) ≡ holds c r false → ⊥
-        broken_put c' z e_l =
-            let same : z.link ≡ flat pl p i = (let e1 = z.puts in cc (e1, e_d)) in
-            let l2 : link_at M (flat pl p i) ≡ holds c' z.seen true = ap (link_at M) (sym same) ∙ z.alive in
-            never (cc (e_l, l2))
+        broken_put c' z e_l = cc
 
     check_force : (i : ℕ) → activity_of M p ≡ waits (check (flat pl p i)) → i < pl.links → (c : ℕ) (r : R) (b : Bool) → m.link p i ≡ holds c r b → Forced M m p (check i)
     check_force i e_d in_i c r true e =
@@ -168,8 +151,8 @@ module _ {R : Type 0} (blank : R) (pl : Plan) where
           reading' = m.reading;
           link' = m.link;
           forces = force_live i c r e;
-          fits = subst (λ (t : Link R). Fits blank pl (does M p (in_force (verdict t))) m.reading m.link (updated m.job p (forced (check i) live))) (sym e_l) (told (check i) live);
-          stored_on = λ c' z. never (let e1 = z.puts in cc (e1, e_d));
+          fits = rw e_l (told (check i) live);
+          stored_on = λ c' z. cc;
         }
     check_force i e_d in_i c r false e =
         let e_l : link_at M (flat pl p i) ≡ holds c r false = F.links p i in_p in_i ∙ e in
@@ -179,12 +162,12 @@ module _ {R : Type 0} (blank : R) (pl : Plan) where
           reading' = m.reading;
           link' = m.link;
           forces = force_broken i c r e;
-          fits = subst (λ (t : Link R). Fits blank pl (does M p (in_force (verdict t))) m.reading m.link (updated m.job p (forced (check i) broken))) (sym e_l) (told (check i) broken);
-          stored_on = λ c' z. never (let e1 = z.puts in cc (e1, e_d));
+          fits = rw e_l (told (check i) broken);
+          stored_on = λ c' z. cc;
         }
 
     pub force : (a : Operation R) → m.job p ≡ awaits a → Forced M m p a
-    force a e_j = go a (subst (DoesAs pl p (m.link p) (activity_of M p)) e_j (F.activities p in_p))
+    force a e_j = go a (does_at F p (awaits a) in_p e_j)
       where
         go : (a : Operation R) → DoesAs pl p (m.link p) (activity_of M p) (awaits a) → Forced M m p a
         go (take i c) d = take_force i c d.0 d.1.0 d.1.1
@@ -198,5 +181,5 @@ module _ {R : Type 0} (blank : R) (pl : Plan) where
     sizes = record { readings = F.sizes.readings; links = F.sizes.links; activities = length-set M.activities p idle ∙ F.sizes.activities };
     readings = F.readings;
     links = F.links;
-    activities = redo M link link job p idle rests M.activities in_p F.sizes.activities (λ q ne h. F.activities q h) (λ q ne i r. r) refl;
+    activities = redo link link job p idle rests M.activities in_p F.sizes.activities (λ q ne h. F.activities q h) (λ q ne i r. r) refl;
   }

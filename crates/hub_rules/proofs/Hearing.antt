@@ -1,6 +1,6 @@
 -- What the model hears of a call, and what that tells of the call.
-use Rattle.std.proofs.Common.{◌≡◌, ℕ, ◌<◌, ◌≤◌, Bool, true, false, ◌⊎◌, List, [], length, get_or, sym, refl, ap, ◌∙◌, inl, inr, arith}
-use Rattle.plan.specs.Refusals.{Outcome, accepted, refused, unless_refused}
+use Rattle.std.proofs.Common.{◌≡◌, ℕ, ◌<◌, ◌≤◌, Bool, true, false, ◌⊎◌, List, [], length, get_or, sym, refl, ap, inl, inr, append-nil, arith}
+use Rattle.plan.specs.Refusals.{Outcome, accepted, refused, Test, unless_refused}
 use Rattle.reading.specs.Kinds.{KindOf}
 use Rattle.shelf.specs.Rules.{Rules}
 use Rattle.shelf.proofs.Passing.{refused_more}
@@ -11,7 +11,10 @@ use Rattle.hub_rules.specs.declared.parts.Progress.{Progress}
 use Rattle.hub_rules.specs.declared.parts.Progress.TheVariants.{Run, Done}
 use Rattle.hub_rules.specs.Hub.{Call, Amendment, Picture, Turn, Release, Look, Hub, party_of, progress_of, next_at, tests_of, hub_after, granted, turn_answer, looked}
 use Rattle.hub_rules.specs.Law.{order_call, BringsIntoForce, one_if_accepted, busy_turn}
-use Rattle.history.proofs.Basics.{never}
+
+-- tests that refuse do so whatever the value
+same_refusal : {A B : Type 0} (ts : List Test) (a : A) (b : B) (n : ℕ) → unless_refused ts a ≡ refused n → unless_refused ts b ≡ refused n
+same_refusal ts a b n e = rw append-nil at (sym (refused_more ts [] a b n (sym e)))
 
 module _ {R : Type 0} where
   abbrev pub order_event : ℕ → Order → Outcome (Unit {0}) → N.Event R
@@ -46,82 +49,71 @@ module _ {R : Type 0} (kind : KindOf R) (rules : Rules R) where
 
   -- where nothing comes into force and nothing is answered
   pub quiet : (x y : Hub rules) (k : Call) (n : N.Event R) → n ≡ event_of x k false [] → Told x k y n
-  quiet x y k n e = record { forces = false; answer = []; is = e; brings = λ z. absurd (never (cc (z))); looks_give = λ p i a b h. absurd (omega arith) }
+  quiet x y k n e = record { forces = false; answer = []; is = e; brings = λ z. absurd cc; looks_give = λ p i a b h. absurd (omega arith) }
 
   -- of a refused call the model hears nothing
   pub refused_event : (x : Hub rules) (k : Call) (n : ℕ) → unless_refused (tests_of kind rules x k) (hub_after kind rules x k) ≡ refused n → event_of x k false [] ≡ N.nothing
-  refused_event x (Amendment p c w) n e =
-      ap (order_event p (amendment c w)) (sym (refused_more (tests_of kind rules x (Amendment p c w)) [] (hub_after kind rules x (Amendment p c w)) tt n (sym e)))
-  refused_event x (Picture p cs) n e = ap (order_event p (picture cs)) (sym (refused_more (tests_of kind rules x (Picture p cs)) [] (hub_after kind rules x (Picture p cs)) tt n (sym e)))
-  refused_event x (Turn p) n e =
-      ap (turn_event p false []) (sym (refused_more (tests_of kind rules x (Turn p)) [] (hub_after kind rules x (Turn p)) (progress_of (next_at kind rules x p (party_of kind rules x p))) n (sym e)))
-  refused_event x (Release p) n e = ap (release_event p) (sym (refused_more (tests_of kind rules x (Release p)) [] (hub_after kind rules x (Release p)) tt n (sym e)))
+  refused_event x (Amendment p c w) n e = rw (same_refusal (tests_of kind rules x (Amendment p c w)) _ (tt {0}) n e) refl
+  refused_event x (Picture p cs) n e = rw (same_refusal (tests_of kind rules x (Picture p cs)) _ (tt {0}) n e) refl
+  refused_event x (Turn p) n e = rw (same_refusal (tests_of kind rules x (Turn p)) _ (progress_of (next_at kind rules x p (party_of kind rules x p))) n e) refl
+  refused_event x (Release p) n e = rw (same_refusal (tests_of kind rules x (Release p)) _ (tt {0}) n e) refl
   refused_event x (Look p i) n e = refl
 
   -- ** an order
 
   order_back : (q : ℕ) (o' : Order) (r : Outcome (Unit {0})) (p : ℕ) (o : Order) → ◌≡◌ {A = N.Event R} (N.ordered p o) (order_event q o' r) → (order_call q o' ≡ order_call p o) × (r ≡ accepted tt)
-  order_back q o' (accepted u) p o e =
-      let a : q ≡ p = cc (e) in
-      let b : o' ≡ o = cc (e) in
-      ((λ i. order_call (a i) (b i)), refl)
-  order_back q o' (refused n) p o e = absurd (never (cc (e)))
+  order_back q o' (accepted u) p o e = (cc, refl)
+  order_back q o' (refused n) p o e = absurd cc
 
   turn_no_order : (q : ℕ) (f : Bool) (a : List R) (r : Outcome Progress) (p : ℕ) (o : Order) → N.ordered p o ≡ turn_event q f a r → ⊥
-  turn_no_order q f a (accepted Run) p o e = never (cc (e))
-  turn_no_order q f a (accepted Done) p o e = never (cc (e))
-  turn_no_order q f a (refused n) p o e = never (cc (e))
+  turn_no_order q f a (accepted Run) p o e = cc
+  turn_no_order q f a (accepted Done) p o e = cc
+  turn_no_order q f a (refused n) p o e = cc
 
   release_no_order : (q : ℕ) (r : Outcome (Unit {0})) (p : ℕ) (o : Order) → ◌≡◌ {A = N.Event R} (N.ordered p o) (release_event q r) → ⊥
-  release_no_order q (accepted u) p o e = never (cc (e))
-  release_no_order q (refused n) p o e = never (cc (e))
-
-  look_no_order : (p : ℕ) (o : Order) → ◌≡◌ {A = N.Event R} (N.ordered p o) N.nothing → ⊥
-  look_no_order p o e = never (cc (e))
+  release_no_order q (accepted u) p o e = cc
+  release_no_order q (refused n) p o e = cc
 
   pub event_ordered : (x : Hub rules) (k : Call) (f : Bool) (a : List R) (p : ℕ) (o : Order) → N.ordered p o ≡ event_of x k f a → (k ≡ order_call p o) × (granted kind rules x k ≡ accepted tt)
   event_ordered x (Amendment q c w) f a p o e = order_back q (amendment c w) (granted kind rules x (Amendment q c w)) p o e
   event_ordered x (Picture q cs) f a p o e = order_back q (picture cs) (granted kind rules x (Picture q cs)) p o e
   event_ordered x (Turn q) f a p o e = absurd (turn_no_order q f a (turn_answer kind rules x q) p o e)
   event_ordered x (Release q) f a p o e = absurd (release_no_order q (granted kind rules x (Release q)) p o e)
-  event_ordered x (Look q i) f a p o e = absurd (look_no_order p o e)
+  event_ordered x (Look q i) f a p o e = absurd cc
 
   plain_ordered : (x : Hub rules) (p : ℕ) (o : Order) (f : Bool) (a : List R) → granted kind rules x (order_call p o) ≡ accepted tt → event_of x (order_call p o) f a ≡ N.ordered p o
-  plain_ordered x p (amendment c w) f a e = ap (order_event p (amendment c w)) e
-  plain_ordered x p (picture cs) f a e = ap (order_event p (picture cs)) e
+  plain_ordered x p (amendment c w) f a e = rw e refl
+  plain_ordered x p (picture cs) f a e = rw e refl
 
   pub ordered_event : (x : Hub rules) (k : Call) (f : Bool) (a : List R) (p : ℕ) (o : Order) → k ≡ order_call p o → granted kind rules x k ≡ accepted tt → event_of x k f a ≡ N.ordered p o
-  ordered_event x k f a p o ek e = ap (λ (z : Call). event_of x z f a) ek ∙ plain_ordered x p o f a (ap (granted kind rules x) (sym ek) ∙ e)
+  ordered_event x k f a p o ek e = rw ek (plain_ordered x p o f a (rw ek at e))
 
   -- ** a turn that is done
 
   order_no_done : (q : ℕ) (o : Order) (r : Outcome (Unit {0})) (p : ℕ) (g : Bool) (b : List R) → N.done p g b ≡ order_event q o r → ⊥
-  order_no_done q o (accepted u) p g b e = never (cc (e))
-  order_no_done q o (refused n) p g b e = never (cc (e))
+  order_no_done q o (accepted u) p g b e = cc
+  order_no_done q o (refused n) p g b e = cc
 
   release_no_done : (q : ℕ) (r : Outcome (Unit {0})) (p : ℕ) (g : Bool) (b : List R) → N.done p g b ≡ release_event q r → ⊥
-  release_no_done q (accepted u) p g b e = never (cc (e))
-  release_no_done q (refused n) p g b e = never (cc (e))
-
-  look_no_done : (p : ℕ) (g : Bool) (b : List R) → N.done p g b ≡ N.nothing → ⊥
-  look_no_done p g b e = never (cc (e))
+  release_no_done q (accepted u) p g b e = cc
+  release_no_done q (refused n) p g b e = cc
 
   turn_back : (q : ℕ) (f : Bool) (a : List R) (r : Outcome Progress) (p : ℕ) (g : Bool) (b : List R) → N.done p g b ≡ turn_event q f a r → (q ≡ p) × (r ≡ accepted Done)
-  turn_back q f a (accepted Run) p g b e = absurd (never (cc (e)))
-  turn_back q f a (accepted Done) p g b e = (cc (e), refl)
-  turn_back q f a (refused n) p g b e = absurd (never (cc (e)))
+  turn_back q f a (accepted Run) p g b e = absurd cc
+  turn_back q f a (accepted Done) p g b e = (cc, refl)
+  turn_back q f a (refused n) p g b e = absurd cc
 
   pub event_done : (x : Hub rules) (k : Call) (f : Bool) (a : List R) (p : ℕ) (g : Bool) (b : List R) → N.done p g b ≡ event_of x k f a → (k ≡ Turn p) × (turn_answer kind rules x p ≡ accepted Done)
   event_done x (Amendment q c w) f a p g b e = absurd (order_no_done q (amendment c w) (granted kind rules x (Amendment q c w)) p g b e)
   event_done x (Picture q cs) f a p g b e = absurd (order_no_done q (picture cs) (granted kind rules x (Picture q cs)) p g b e)
   event_done x (Turn q) f a p g b e =
       let z = turn_back q f a (turn_answer kind rules x q) p g b e in
-      (ap Turn z.0, ap (turn_answer kind rules x) (sym z.0) ∙ z.1)
+      (ap Turn z.0, rw (← z.0) z.1)
   event_done x (Release q) f a p g b e = absurd (release_no_done q (granted kind rules x (Release q)) p g b e)
-  event_done x (Look q i) f a p g b e = absurd (look_no_done p g b e)
+  event_done x (Look q i) f a p g b e = absurd cc
 
   pub done_event : (x : Hub rules) (k : Call) (f : Bool) (a : List R) (p : ℕ) → k ≡ Turn p → turn_answer kind rules x p ≡ accepted Done → event_of x k f a ≡ N.done p f a
-  done_event x k f a p ek e = ap (λ (z : Call). event_of x z f a) ek ∙ ap (turn_event p f a) e
+  done_event x k f a p ek e = rw (ek, e) refl
 
   -- ** turns of busy parties, and those that get on
 

@@ -1,37 +1,36 @@
 -- What a party holds reads the same until its next accepted order or its release.
-use Rattle.std.proofs.Common.{◌≡◌, ℕ, suc, ◌<◌, Bool, true, not, ◌&&◌, ◌≢◌, List, [], ◌∷◌, ◌++◌, length, sym, refl, ap, ◌∙◌, subst, arith}
+use Rattle.std.proofs.Common.{◌≡◌, ℕ, suc, ◌<◌, Bool, true, not, ◌≢◌, List, [], ◌∷◌, ◌++◌, length, sym, refl, ap, ◌∙◌, arith}
 use mathlib.Core.Option.{Option, none, some}
-use Rattle.std.proofs.lemmas.Bool.{ltb-true, lt-ltb, and_parts}
+use Rattle.std.proofs.lemmas.Bool.{ltb-true, and_parts}
 use Rattle.plan.specs.Refusals.{Outcome, accepted, refused}
 use Rattle.plan.specs.Plans.{InRange}
 use Rattle.plan.specs.declared.check.Plan.{Plan}
 use Rattle.reading.specs.Kinds.{KindOf}
-use Rattle.shelf.specs.Meaning.{flat, Link, vacant, holds, Operation, idle, link_at, activity_of, break_on}
+use Rattle.shelf.specs.Meaning.{flat, Link, vacant, holds, Operation, link_at, activity_of, break_on}
 use Rattle.shelf.specs.Rules.{Rules}
 use Rattle.shelf.specs.Calls.{is_idle, is_vacant, reading_on}
-use Rattle.shelf.proofs.Passing.{passes, accepted_passed}
+use Rattle.shelf.proofs.Passing.{accepted_passed}
 use Rattle.shelf.proofs.After.{idle_is}
 use Rattle.history.specs.Board.{updated, Order, amendment, picture}
 use Rattle.history.proofs.Shelf.{Said, rests, awaits, Shelf, Starts, start_take, start_put, start_check, Forces, force_take, force_put, force_miss, force_live, force_broken, Turn as ModelTurn, turn_still, turn_force, turn_end, turn_both}
 use Rattle.history.proofs.Hub as N
 use Rattle.history.proofs.Hub.{Stage, Task, free, doing, Begun, begun_before, begun_now, Step, step_order, step_run, step_next, step_done, step_release, step_nothing, Past, after_that}
-use Rattle.history.proofs.Basics.{never, updated_other}
-use Rattle.hub_rules.specs.declared.parts.Party.{Party}
+use Rattle.history.proofs.Basics.{updated_other}
 use Rattle.hub_rules.specs.declared.parts.Progress.{Progress}
 use Rattle.hub_rules.specs.declared.parts.Progress.TheVariants.{Run, Done}
 use Rattle.hub_rules.specs.Hub.{Call, Amendment, Picture, Turn, Release, Look, Hub, is_free, party_of, tests_of, after, granted, turn_answer, looked, after_all, made_on}
 use Rattle.hub_rules.specs.Law.{call_at, AcceptedAt, Empties, HoldingsStay}
-use Rattle.hub_rules.proofs.Match.{task_of, DoesAs, Matches}
+use Rattle.hub_rules.proofs.Match.{task_of, Matches, does_at, link_is}
 use Rattle.hub_rules.proofs.Turning.{job_idle}
 use Rattle.hub_rules.proofs.Stages.{free_from, task_free}
 use Rattle.hub_rules.proofs.Hearing.{order_event, turn_event, release_event, event_of}
-use Rattle.hub_rules.proofs.Stepping.{stepped}
+use Rattle.hub_rules.proofs.Stepping.{look_accepted, stepped}
 use Rattle.hub_rules.proofs.Running.{plan, range, runs}
 
 -- ** in the model
 
 not_busy : (p : ℕ) (task : ℕ → Task) (q : ℕ) (o : Order) (st : Stage) → task p ≡ free → task q ≡ doing o st → p ≢ q
-not_busy p task q o st a b e = never (let c = ap task e in cc (a, b, c))
+not_busy p task q o st a b e = cc
 
 module _ {R : Type 0} where
   -- what a look at a link shows, if anything
@@ -139,19 +138,16 @@ module _ {R : Type 0} (kind : KindOf R) (rules : Rules R) (pl : Plan) (w : ℕ) 
     shows : shown (h.shelf.link p i) ≡ some r
 
   link_shows : (l : Link R) → not (is_vacant l) ≡ true → r ≡ reading_on rules.blank l → shown l ≡ some r
-  link_shows vacant a b = absurd (never (cc (a)))
+  link_shows vacant a b = absurd cc
   link_shows (holds c x t) a b = ap some (sym b)
 
   link_full : (l : Link R) → shown l ≡ some r → (not (is_vacant l) ≡ true) × (reading_on rules.blank l ≡ r)
-  link_full vacant e = absurd (never (cc (e)))
+  link_full vacant e = absurd cc
   link_full (holds c x t) e = (refl, cc (e))
 
   module _ (x : Hub rules) (h : N.Hub R) (mt : Matches rules pl w x h) where
     abbrev link_here : Link R
     link_here = link_at (rules.means x.shelf) (flat (rules.plan x.shelf) p i)
-
-    link_is : p < pl.parties → i < pl.links → link_here ≡ h.shelf.link p i
-    link_is in_p in_i = ap (λ (z : Plan). link_at (rules.means x.shelf) (flat z p i)) mt.shelved.plan ∙ mt.shelved.fits.links p i in_p in_i
 
     look_holds : looked kind rules x p i ≡ accepted r → Holds h
     look_holds e =
@@ -159,36 +155,23 @@ module _ {R : Type 0} (kind : KindOf R) (rules : Rules R) (pl : Plan) (w : ℕ) 
         let a = t.0 in
         let b = and_parts (is_free (party_of kind rules x p)) (is_idle (activity_of (rules.means x.shelf) p)) a.1.0 in
         let e_p = mt.shelved.plan in
-        let in_p : p < pl.parties = subst (λ (z : Plan). p < z.parties) e_p (ltb-true _ _ a.0) in
-        let in_i : i < pl.links = subst (λ (z : Plan). i < z.links) e_p (ltb-true _ _ a.1.1.0) in
+        let in_p : p < pl.parties = rw e_p at (ltb-true p (rules.plan x.shelf).parties a.0) in
+        let in_i : i < pl.links = rw e_p at (ltb-true i (rules.plan x.shelf).links a.1.1.0) in
+        let e_l = link_is mt.shelved p i in_p in_i in
         record {
           in_p = in_p;
           in_i = in_i;
           is_free = mt.tasks p ∙ ap task_of (free_from (party_of kind rules x p) b.0);
           is_idle = job_idle pl p (h.shelf.link p) (activity_of (rules.means x.shelf) p) (h.shelf.job p) (mt.shelved.fits.activities p in_p) (idle_is _ b.1);
-          shows = link_shows (h.shelf.link p i) (subst (λ (l : Link R). not (is_vacant l) ≡ true) (link_is in_p in_i) a.1.1.1.0)
-              (subst (λ (l : Link R). r ≡ reading_on rules.blank l) (link_is in_p in_i) t.1);
+          shows = link_shows (h.shelf.link p i) (rw (← e_l) a.1.1.1.0) (rw (← e_l) t.1);
         }
 
     holds_look : Holds h → looked kind rules x p i ≡ accepted r
     holds_look H =
-        let e_p = mt.shelved.plan in
-        let e_l = link_is H.in_p H.in_i in
         let full = link_full (h.shelf.link p i) H.shows in
-        let rest : activity_of (rules.means x.shelf) p ≡ idle = subst (DoesAs pl p (h.shelf.link p) (activity_of (rules.means x.shelf) p)) H.is_idle (mt.shelved.fits.activities p H.in_p) in
-        let e_f : is_free (party_of kind rules x p) && is_idle (activity_of (rules.means x.shelf) p) ≡ true =
-        ap (λ (z : Party). is_free z && is_idle (activity_of (rules.means x.shelf) p)) (task_free (party_of kind rules x p) (sym (mt.tasks p) ∙ H.is_free)) ∙ ap is_idle rest in
-        passes (tests_of kind rules x (Look p i)) (reading_on rules.blank link_here) (
-          lt-ltb _ _ (subst (λ (z : Plan). p < z.parties) (sym e_p) H.in_p),
-          (
-            e_f,
-            (
-              lt-ltb _ _ (subst (λ (z : Plan). i < z.links) (sym e_p) H.in_i),
-              (ap (λ (z : Link R). not (is_vacant z)) e_l ∙ full.0, tt),
-            ),
-          ),
-        )
-        ∙ ap accepted (ap (reading_on rules.blank) e_l ∙ full.1)
+        look_accepted kind rules x p i (h.shelf.link p i) (rw mt.shelved.plan H.in_p) (rw mt.shelved.plan H.in_i) (task_free _ (sym (mt.tasks p) ∙ H.is_free)) (does_at mt.shelved.fits p rests H.in_p H.is_idle)
+        (link_is mt.shelved p i H.in_p H.in_i) full.0
+        ∙ ap accepted full.1
 
   module _ (plan : N.Plan) (range : InRange pl) (same_parties : plan.parties ≡ pl.parties) (same_links : plan.links ≡ pl.links)
       (same_channels : plan.channels ≡ pl.channels) (same_patience : w ≡ plan.patience) where
@@ -198,7 +181,7 @@ module _ {R : Type 0} (kind : KindOf R) (rules : Rules R) (pl : Plan) (w : ℕ) 
     stays x h before past mt [] H sp = holds_look x h mt H
     stays x h before past mt (k ∷ ks) H sp =
         let z = stepped kind rules plan pl w range same_parties same_links same_channels same_patience x h mt before past k in
-        let nb : NotBy p z.heard = subst (NotBy p) (sym z.told.is) (event_not kind rules p x k z.told.forces z.told.answer (sp 0 (omega arith))) in
+        let nb : NotBy p z.heard = rw z.told.is (event_not kind rules p x k z.told.forces z.told.answer (sp 0 (omega arith))) in
         let same = step_same p i rules.blank kind.amended plan h H.is_free nb z.step in
         stays (after kind rules x k) z.then (before ++ (z.heard ∷ [])) (after_that z.heard z.then past z.step) z.matches ks
         (record {

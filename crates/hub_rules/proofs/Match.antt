@@ -12,7 +12,7 @@ use Rattle.history.proofs.Hub.{Stage, taking, putting, checking, Task, free, doi
 use Rattle.history.proofs.Fitting.{Ready}
 use Rattle.hub_rules.specs.declared.parts.Party.{Party}
 use Rattle.hub_rules.specs.declared.parts.Party.TheVariants.{Idle, AmendmentTake, AmendmentPut, PictureTake, PictureCheck}
-use Rattle.hub_rules.specs.Hub.{Hub, channels_of}
+use Rattle.hub_rules.specs.Hub.{Hub}
 
 abbrev pub answer_of : Said → Answer
 answer_of taken = Taken
@@ -26,16 +26,16 @@ abbrev pub task_of : Party → Task
 task_of Idle = free
 task_of (AmendmentTake c w) = doing (amendment c w) (taking 0)
 task_of (AmendmentPut c w) = doing (amendment c w) putting
-task_of (PictureTake l i) = doing (picture (channels_of l)) (taking i)
-task_of (PictureCheck l i) = doing (picture (channels_of l)) (checking i)
+task_of (PictureTake l i) = doing (picture l.items) (taking i)
+task_of (PictureCheck l i) = doing (picture l.items) (checking i)
 
 -- the order and the stage of an operation that runs
 abbrev pub order_of : Party → Order
 order_of Idle = picture []
 order_of (AmendmentTake c w) = amendment c w
 order_of (AmendmentPut c w) = amendment c w
-order_of (PictureTake l i) = picture (channels_of l)
-order_of (PictureCheck l i) = picture (channels_of l)
+order_of (PictureTake l i) = picture l.items
+order_of (PictureCheck l i) = picture l.items
 
 abbrev pub stage_of : Party → Stage
 stage_of Idle = putting
@@ -76,6 +76,15 @@ module _ {R : Type 0} where
     pub patience : rules.patience s ≡ w
     pub fits : Fits rules.blank pl (rules.means s) m.reading m.link m.job
     pub left : (p : ℕ) → p < pl.parties → activity_of (rules.means s) p ≢ idle → rules.left s p ≤ suc (m.left p)
+
+  -- what a party does, by its job
+  pub does_at : {blank : R} {pl : Plan} {M : Meaning R} {reading : ℕ → R} {link : ℕ → ℕ → Link R} {job : ℕ → Job R} → Fits blank pl M reading link job
+      → (p : ℕ) (J : Job R) → p < pl.parties → job p ≡ J → DoesAs pl p (link p) (activity_of M p) J
+  does_at F p J in_p e = rw (← e) (F.activities p in_p)
+
+  pub link_is : {rules : Rules R} {pl : Plan} {w : ℕ} {s : rules.State} {m : Shelf R} → Shelved rules pl w s m
+      → (p i : ℕ) → p < pl.parties → i < pl.links → link_at (rules.means s) (flat (rules.plan s) p i) ≡ m.link p i
+  link_is ok p i in_p in_i = rw ok.plan (ok.fits.links p i in_p in_i)
 
   -- an exact hub and a hub of the model
   pub record Matches (rules : Rules R) (pl : Plan) (w : ℕ) (x : Hub rules) (h : N.Hub R) : Type 0 where

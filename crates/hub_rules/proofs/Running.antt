@@ -1,10 +1,10 @@
 -- Every list of calls from a fresh shelf is a past of the model.
-use Rattle.std.proofs.Common.{◌≡◌, ℕ, zero, suc, ◌<◌, List, [], ◌∷◌, ◌++◌, length, get_or, take, replicate, sym, refl, ap, ◌∙◌, subst, append_assoc, append-nil, arith}
+use Rattle.std.proofs.Common.{◌≡◌, ℕ, zero, suc, ◌<◌, List, [], ◌∷◌, ◌++◌, length, get_or, take, replicate, sym, refl, ap, append_assoc, append-nil, arith}
 use Rattle.std.proofs.lemmas.List.{length-replicate}
 use Rattle.reading.specs.Kinds.{KindOf}
 use Rattle.plan.specs.declared.check.Plan.{Plan}
 use Rattle.plan.specs.Plans.{width, InRange}
-use Rattle.shelf.specs.Meaning.{flat, vacant, idle, Meaning, link_at, activity_of}
+use Rattle.shelf.specs.Meaning.{flat, vacant, idle, activity_of}
 use Rattle.shelf.specs.Rules.{Rules, Fresh}
 use Rattle.history.proofs.Shelf.{rests}
 use Rattle.history.proofs.Hub as N
@@ -47,7 +47,7 @@ module _ {R : Type 0} (kind : KindOf R) (rules : Rules R) where
       pub matches : Matches rules pl w (after_all kind rules x ks) hub
 
     pub ran : (x : Hub rules) (h : N.Hub R) (before : List (N.Event R)) → Past rules.blank kind.amended plan before h → Matches rules pl w x h → (ks : List Call) → Ran x ks before
-    ran x h before past mt [] = record { log = []; hub = h; heard = tt; past = subst (λ (l : List (N.Event R)). Past rules.blank kind.amended plan l h) (sym (append-nil before)) past; matches = mt }
+    ran x h before past mt [] = record { log = []; hub = h; heard = tt; past = rw (append-nil before) past; matches = mt }
     ran x h before past mt (k ∷ ks) =
         let z = stepped kind rules plan pl w range same_parties same_links same_channels same_patience x h mt before past k in
         let y = ran (after kind rules x k) z.then (before ++ (z.heard ∷ [])) (after_that z.heard z.then past z.step) z.matches ks in
@@ -55,7 +55,7 @@ module _ {R : Type 0} (kind : KindOf R) (rules : Rules R) where
           log = z.heard ∷ y.log;
           hub = y.hub;
           heard = (z.told, y.heard);
-          past = subst (λ (l : List (N.Event R)). Past rules.blank kind.amended plan l y.hub) (append_assoc before (z.heard ∷ []) y.log) y.past;
+          past = rw (← append_assoc before (z.heard ∷ []) y.log) y.past;
           matches = y.matches;
         }
 
@@ -83,7 +83,7 @@ module _ {R : Type 0} (kind : KindOf R) (rules : Rules R) where
     fresh_matches =
         let b = fresh in
         let e = b.is_blank in
-        let resting_all : (p : ℕ) → activity_of (rules.means s) p ≡ idle = λ p. ap (λ (m : Meaning R). activity_of m p) e ∙ get_d_blank pl.parties p idle in
+        let resting_all : (p : ℕ) → activity_of (rules.means s) p ≡ idle = λ p. rw e (get_d_blank pl.parties p idle) in
         record {
           shelved = record {
             sound = b.is_sound;
@@ -91,8 +91,8 @@ module _ {R : Type 0} (kind : KindOf R) (rules : Rules R) where
             patience = refl;
             fits = record {
               sizes = rules.sizes s b.is_sound;
-              readings = λ c h. ap (λ (m : Meaning R). get_or m.readings c rules.blank) e ∙ get_d_blank pl.channels c rules.blank;
-              links = λ p i a c. ap (λ (m : Meaning R). link_at m (flat pl p i)) e ∙ get_d_blank (width pl) (flat pl p i) vacant;
+              readings = λ c h. rw e (get_d_blank pl.channels c rules.blank);
+              links = λ p i a c. rw e (get_d_blank (width pl) (flat pl p i) vacant);
               activities = λ p h. resting_all p;
             };
             left = λ p h n. absurd (n (resting_all p));

@@ -30,7 +30,7 @@ module _ {R : Type 0} (amended : R → ℕ → R) where
   answer_size : (board : ℕ → R) (line : List (Entry R)) (end : ℕ → R) → Plays amended board line end → (x : Entry R) → StandsIn x line → length x.answer ≡ length (listed x.order)
   answer_size board [] end p x m = absurd m
   answer_size board (y ∷ ys) end p x (inl e) =
-      subst (λ (z : Entry R). length z.answer ≡ length (listed z.order)) (sym e) (ap length p.0 ∙ length-map (listed y.order) board)
+      rw e (ap length p.0 ∙ length-map (listed y.order) board)
   answer_size board (y ∷ ys) end p x (inr m) = answer_size (board_after amended y.order board) ys end p.1 x m
 
 along_map : {R : Type 0} (P Q : Entry R → Entry R → Type 0) → ((x y : Entry R) → P x y → Q x y) → (line : List (Entry R)) → Along P line → Along Q line
@@ -131,7 +131,7 @@ module _ {R : Type 0} (kind : KindOf R) (rules : Rules R) (s : rules.State) (fre
       let e : rules.patience s + 1 ≡ suc (rules.patience s) = omega arith in
       let e' : turn_bound kind rules start calls ≡ 1 + 16 * ((rules.plan s).parties * suc (rules.patience s)) = ap (λ (x : ℕ). 1 + 16 * ((rules.plan s).parties * x)) e in
       let f = fewer t n h in
-      let g = model.get_on t n (let z = long in omega arith) (let z = subst (λ (x : ℕ). x ≤ busy_turns kind rules start calls t n) e' b in omega arith) in
+      let g = model.get_on t n (let z = long in omega arith) (let z = rw e' at b in omega arith) in
       (g.0, g.1, g.2, found g.0 (omega (arith, g.2)) g.3)
     where
       found : (u : ℕ) → u < length calls → GetsOn (event_at log u) → ((p : ℕ) × DoneAt kind rules start calls p u) ⊎ BringsIntoForce kind rules (at u) (call u) (at (suc u))

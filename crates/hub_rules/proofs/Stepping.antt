@@ -1,9 +1,9 @@
 -- Every call of the exact hub is a step of the model.
-use Rattle.std.proofs.Common.{◌≡◌, ℕ, zero, suc, ◌+◌, ◌<◌, true, false, not, ◌&&◌, ltb, leb, ◌≢◌, List, [], ◌∷◌, length, get_or, set, sym, refl, ap, ◌∙◌, subst, arith, length-set, get_or-set_other, get_or-set_same}
+use Rattle.std.proofs.Common.{◌≡◌, ℕ, zero, suc, ◌+◌, ◌<◌, true, false, not, ◌&&◌, ltb, leb, ◌≢◌, List, [], ◌∷◌, length, get_or, set, sym, refl, ap, ◌∙◌, subst, arith, length-set, get_or-set_other, get_or-set_same, zero-add}
 use mathlib.Core.Option.{Option, none, some}
 use Rattle.std.specs.List.{AllByRecursion}
-use Rattle.std.proofs.lemmas.Bool.{ltb-true, lt-ltb, leb-true, and_parts}
-use Rattle.plan.specs.Refusals.{Outcome, accepted}
+use Rattle.std.proofs.lemmas.Bool.{ltb-true, lt-ltb, leb-true, and_parts, and_from}
+use Rattle.plan.specs.Refusals.{accepted}
 use Rattle.plan.specs.Plans.{InRange}
 use Rattle.plan.specs.declared.check.Plan.{Plan}
 use Rattle.reading.specs.Kinds.{KindOf}
@@ -16,23 +16,22 @@ use Rattle.shelf.specs.Calls.{is_idle, is_vacant, reading_on, leaves}
 use Rattle.shelf.proofs.Passing.{Passed, Ways, all_pass, one_refuses, ways, passes}
 use Rattle.shelf.proofs.After.{idle_is}
 use Rattle.history.specs.Board.{updated, Order, amendment, picture, listed}
-use Rattle.history.proofs.Shelf.{Said, taken, stored as put_stored, missed, live, broken, Shelf, Turn as ModelTurn}
+use Rattle.history.proofs.Shelf.{Said, taken, stored as put_stored, missed, live, broken, rests, Shelf, Turn as ModelTurn}
 use Rattle.history.proofs.Hub as N
 use Rattle.history.proofs.Hub.{Stage, taking, putting, Task, free, doing, is_some, looks, cleared, Begun, Next, Step, step_order, step_run, step_next, step_done, step_release, step_nothing, Allowed, Past}
-use Rattle.history.proofs.Basics.{never, updated_same, updated_other, at_party}
+use Rattle.history.proofs.Basics.{updated_same, updated_other, at_party}
 use Rattle.history.proofs.Shape.{past_begins, past_says, past_amends, past_ready, past_allowed, turn_idle}
 use Rattle.hub_rules.specs.declared.parts.Party.{Party}
 use Rattle.hub_rules.specs.declared.parts.Party.TheVariants.{Idle, AmendmentTake, AmendmentPut, PictureTake, PictureCheck}
 use Rattle.hub_rules.specs.declared.parts.Progress.TheVariants as progress
-use Rattle.hub_rules.specs.declared.parts.Progress.{Progress}
-use Rattle.hub_rules.specs.Hub.{Call, Amendment, Picture, Turn, Release, Look, Hub, stored, is_free, progress_of, next, next_of, emptied, begun, party_of, tests_of, ordered, next_at, turned, hub_after, after, turn_answer, looked}
+use Rattle.hub_rules.specs.Hub.{Call, Amendment, Picture, Turn, Release, Look, Hub, is_free, progress_of, next, emptied, begun, party_of, tests_of, ordered, next_at, turned, hub_after, after, turn_answer, looked}
 use Rattle.hub_rules.specs.Law.{BringsIntoForce}
-use Rattle.hub_rules.proofs.Match.{answer_of, task_of, order_of, stage_of, DoesAs, Shelved, Matches}
+use Rattle.hub_rules.proofs.Match.{answer_of, task_of, order_of, stage_of, Shelved, Matches, does_at, link_is}
 use Rattle.hub_rules.proofs.Turning.{said_of, TurnMatched, turn_matched}
 use Rattle.hub_rules.proofs.Starting.{BegunMatched, begun_matched}
 use Rattle.hub_rules.proofs.Emptying.{cleared_matched}
-use Rattle.hub_rules.proofs.Stages.{Leads, to_end, to_stage, leads, next_run, free_from, Runs, runs_from, stored_back, below_at, apart_at}
-use Rattle.hub_rules.proofs.Hearing.{order_event, turn_event, release_event, Told, quiet, event_of, refused_event}
+use Rattle.hub_rules.proofs.Stages.{Leads, to_end, to_stage, leads, next_run, free_from, Runs, runs_from, below_at, apart_at}
+use Rattle.hub_rules.proofs.Hearing.{order_event, release_event, Told, quiet, event_of, refused_event}
 
 module _ {R : Type 0} where
   looks_length : (blank : R) (links : ℕ → Link R) (i : ℕ) (cs : List ℕ) → length (looks blank links i cs) ≡ length cs
@@ -41,21 +40,30 @@ module _ {R : Type 0} where
 
   looks_at : (blank : R) (links : ℕ → Link R) (i : ℕ) (cs : List ℕ) (n : ℕ) → n < length cs → get_or (looks blank links i cs) n blank ≡ reading_on blank (links (i + n))
   looks_at blank links i [] n h = absurd (omega arith)
-  looks_at blank links i (c ∷ cs) zero h = ap (λ (x : ℕ). reading_on blank (links x)) (let e : i ≡ i + 0 = omega arith in e)
-  looks_at blank links i (c ∷ cs) (suc n) h = looks_at blank links (suc i) cs n (omega arith) ∙ ap (λ (x : ℕ). reading_on blank (links x)) (let e : suc i + n ≡ i + suc n = omega arith in e)
+  looks_at blank links i (c ∷ cs) zero h = let e : i ≡ i + 0 = omega arith in cc
+  looks_at blank links i (c ∷ cs) (suc n) h = let e : suc i + n ≡ i + suc n = omega arith in cc (looks_at blank links (suc i) cs n (omega arith))
 
   busy_true : (d : Activity R) → d ≢ idle → not (is_idle d) ≡ true
   busy_true idle n = absurd (n refl)
   busy_true (waits z) n = refl
   busy_true (in_force a) n = refl
 
+-- a look, of a party of which nothing runs, at a link that is not empty
+pub look_accepted : {R : Type 0} (kind : KindOf R) (rules : Rules R) (x : Hub rules) (p i : ℕ) (l : Link R) → p < (rules.plan x.shelf).parties → i < (rules.plan x.shelf).links
+    → party_of kind rules x p ≡ Idle → activity_of (rules.means x.shelf) p ≡ idle → link_at (rules.means x.shelf) (flat (rules.plan x.shelf) p i) ≡ l → not (is_vacant l) ≡ true
+    → looked kind rules x p i ≡ accepted (reading_on rules.blank l)
+look_accepted {R} kind rules x p i l in_p in_i is_none is_rest e full =
+    passes (tests_of kind rules x (Look p i)) (reading_on rules.blank (link_at (rules.means x.shelf) (flat (rules.plan x.shelf) p i)))
+    (lt-ltb _ _ in_p, (and_from _ _ (ap is_free is_none) (ap is_idle is_rest), (lt-ltb _ _ in_i, (rw e full, tt))))
+    ∙ ap (λ (z : Link R). accepted (reading_on rules.blank z)) e
+
 -- only a put is at the stage of putting
 put_from_lem : (y : Party) (c w : ℕ) → order_of y ≡ amendment c w → stage_of y ≡ putting → y ≡ AmendmentPut c w
-put_from_lem Idle c w e s = absurd (never (cc (e)))
-put_from_lem (AmendmentTake d v) c w e s = absurd (never (cc (s)))
-put_from_lem (AmendmentPut d v) c w e s = let a : d ≡ c = cc (e) in let b : v ≡ w = cc (e) in λ i. AmendmentPut (a i) (b i)
-put_from_lem (PictureTake l i) c w e s = absurd (never (cc (e)))
-put_from_lem (PictureCheck l i) c w e s = absurd (never (cc (e)))
+put_from_lem Idle c w e s = cc
+put_from_lem (AmendmentTake d v) c w e s = cc
+put_from_lem (AmendmentPut d v) c w e s = cc
+put_from_lem (PictureTake l i) c w e s = cc
+put_from_lem (PictureCheck l i) c w e s = cc
 
 module _ {R : Type 0} (kind : KindOf R) (rules : Rules R) (plan : N.Plan) (pl : Plan) (w : ℕ) (range : InRange pl)
     (same_parties : plan.parties ≡ pl.parties) (same_links : plan.links ≡ pl.links) (same_channels : plan.channels ≡ pl.channels) (same_patience : w ≡ plan.patience) where
@@ -68,13 +76,13 @@ module _ {R : Type 0} (kind : KindOf R) (rules : Rules R) (plan : N.Plan) (pl : 
 
   module _ (x : Hub rules) (h : N.Hub R) (mt : Matches rules pl w x h) (log : List (N.Event R)) (past : Past rules.blank kind.amended plan log h) where
     at_plan : (n : ℕ) (f : Plan → ℕ) → n < f (rules.plan x.shelf) → n < f pl
-    at_plan n f l = subst (λ (z : Plan). n < f z) mt.shelved.plan l
+    at_plan n f l = rw mt.shelved.plan at l
 
     -- a record set in the table
     set_task : (p : ℕ) (v : Party) (T : Task) → task_of v ≡ T → p < pl.parties → (q : ℕ) → updated h.task p T q ≡ task_of (get_or (set x.table p v) q Idle)
     set_task p v T e in_p = at_party p (λ q. updated h.task p T q ≡ task_of (get_or (set x.table p v) q Idle))
-        (updated_same h.task p T ∙ (sym e ∙ ap task_of (sym (get_or-set_same x.table p v Idle (let z = mt.size in omega arith)))))
-        (λ q ne. updated_other h.task p T q ne ∙ (mt.tasks q ∙ ap task_of (sym (get_or-set_other x.table p q v Idle ne))))
+        (cc (updated_same h.task p T, get_or-set_same x.table p v Idle (let z = mt.size in omega arith)))
+        (λ q ne. cc (updated_other h.task p T q ne, mt.tasks q, get_or-set_other x.table p q v Idle ne))
 
     -- a party that the hub may serve
     record Serves (p : ℕ) : Type 0 where
@@ -93,7 +101,7 @@ module _ {R : Type 0} (kind : KindOf R) (rules : Rules R) (plan : N.Plan) (pl : 
 
     emptied_matched : (p : ℕ) → Serves p → Shelved rules pl w (emptied kind rules x.shelf p (rules.plan x.shelf).links) (cleared h.shelf p)
     emptied_matched p f =
-        subst (λ (z : Plan). Shelved rules pl w (emptied kind rules x.shelf p z.links) (cleared h.shelf p)) (sym mt.shelved.plan)
+        rw mt.shelved.plan
         (cleared_matched kind rules pl w x.shelf h.shelf mt.shelved p f.in_p f.is_idle)
 
     order_step : (p : ℕ) (v : Party) (o : Order) (k : Call) → task_of v ≡ doing o (taking 0) → N.ordered p o ≡ event_of kind rules x k false [] → Serves p → Allowed plan o → Stepped x h k (ordered kind rules x p v)
@@ -129,7 +137,7 @@ module _ {R : Type 0} (kind : KindOf R) (rules : Rules R) (plan : N.Plan) (pl : 
 
       brings_at : (c : Option ℕ) → ((d : ℕ) → c ≡ some d → Stores (rules.means s) (rules.means (rules.turned s p)) p d) → ((d : ℕ) → c ≡ some d → (v : ℕ) × (order_of y ≡ amendment d v) × (stage_of y ≡ putting))
           → (v : Party) → is_some c ≡ true → BringsIntoForce kind rules x (Turn p) (then_at v)
-      brings_at none puts am v e = absurd (never (cc (e)))
+      brings_at none puts am v e = absurd cc
       brings_at (some d) puts am v e =
           let a = am d refl in
           let is = put_from_lem y d a.0 a.1 a.2 in
@@ -152,7 +160,7 @@ module _ {R : Type 0} (kind : KindOf R) (rules : Rules R) (plan : N.Plan) (pl : 
         goes_on v e_a t = record {
           forces = is_some f;
           answer = [];
-          is = ap (λ (z : Outcome Progress). turn_event p (is_some f) [] z) (sym e_a);
+          is = rw e_a refl;
           brings = brings_at f puts (amends_at t) v;
           looks_give = λ q i a b l. absurd (omega arith);
         }
@@ -167,8 +175,8 @@ module _ {R : Type 0} (kind : KindOf R) (rules : Rules R) (plan : N.Plan) (pl : 
             shelved = shelved;
             size = length-set x.table p y ∙ mt.size;
             tasks = at_party p (λ q. h.task q ≡ task_of (get_or (set x.table p y) q Idle))
-                (hub_task ∙ (sym running.task ∙ ap task_of (sym (get_or-set_same x.table p y Idle (let e = mt.size in omega arith)))))
-                (λ q ne. mt.tasks q ∙ ap task_of (sym (get_or-set_other x.table p q y Idle ne)));
+                (cc (hub_task, running.task, get_or-set_same x.table p y Idle (let e = mt.size in omega arith)))
+                (λ q ne. cc (mt.tasks q, get_or-set_other x.table p q y Idle ne));
           };
           told = goes_on y e_a t;
         }
@@ -192,24 +200,8 @@ module _ {R : Type 0} (kind : KindOf R) (rules : Rules R) (plan : N.Plan) (pl : 
             let al = past_allowed rules.blank kind.amended plan log h past p (order_of y) (stage_of y) hub_task in
             let fit = al.fit in
             let in_i : i < pl.links = omega arith in
-            let e_p = shelved.plan in
-            let e_l : link_at (rules.means (rules.turned s p)) (flat (rules.plan (rules.turned s p)) p i) ≡ n.link p i =
-            ap (λ (z : Plan). link_at (rules.means (rules.turned s p)) (flat z p i)) e_p ∙ shelved.fits.links p i in_p in_i in
-            let rest : activity_of (rules.means (rules.turned s p)) p ≡ idle =
-            subst (DoesAs pl p (n.link p) (activity_of (rules.means (rules.turned s p)) p)) (turn_idle rules.blank kind.amended plan.patience B.then p t) (shelved.fits.activities p in_p) in
-            let e_f : is_free (get_or (set x.table p Idle) p Idle) && is_idle (activity_of (rules.means (rules.turned s p)) p) ≡ true =
-            ap (λ (z : Party). is_free z && is_idle (activity_of (rules.means (rules.turned s p)) p)) (get_or-set_same x.table p Idle Idle (let e = mt.size in omega arith)) ∙ ap is_idle rest in
-            passes (tests_of kind rules (then_at Idle) (Look p i)) (reading_on rules.blank (link_at (rules.means (rules.turned s p)) (flat (rules.plan (rules.turned s p)) p i))) (
-              lt-ltb _ _ (subst (λ (z : Plan). p < z.parties) (sym e_p) in_p),
-              (
-                e_f,
-                (
-                  lt-ltb _ _ (subst (λ (z : Plan). i < z.links) (sym e_p) in_i),
-                  (ap (λ (z : Link R). not (is_vacant z)) (e_l ∙ rd.is), tt),
-                ),
-              ),
-            )
-            ∙ ap (λ (z : Link R). accepted (reading_on rules.blank z)) e_l
+            look_accepted kind rules (then_at Idle) p i (n.link p i) (rw shelved.plan in_p) (rw shelved.plan in_i) (get_or-set_same x.table p Idle Idle (let e = mt.size in omega arith))
+            (does_at shelved.fits p rests in_p (turn_idle rules.blank kind.amended plan.patience B.then p t)) (link_is shelved p i in_p in_i) (ap (λ (z : Link R). not (is_vacant z)) rd.is)
 
         finished : (sd : Said) → turn_answer kind rules x p ≡ accepted progress.Done → ModelTurn plan.patience B.then p f (some sd) n → Next (order_of y) (stage_of y) sd none → Stepped x h (Turn p) (then_at Idle)
         finished sd e_a t nx =
@@ -222,28 +214,27 @@ module _ {R : Type 0} (kind : KindOf R) (rules : Rules R) (plan : N.Plan) (pl : 
               told = record {
                 forces = is_some f;
                 answer = answer;
-                is = ap (λ (z : Outcome Progress). turn_event p (is_some f) answer z) (sym e_a);
+                is = rw e_a refl;
                 brings = brings_at f puts (amends_at t) Idle;
                 looks_give = λ q i e d l.
                     let l' : i < length (listed (order_of y)) = (let a = looks_length rules.blank (n.link p) 0 (listed (order_of y)) in omega arith) in
-                    let same : p ≡ q = cc (e) in
-                    ap (λ (z : ℕ). looked kind rules (then_at Idle) z i) (sym same)
-                    ∙ (look_after sd t nx i l' ∙ ap accepted (sym (looks_at rules.blank (n.link p) 0 (listed (order_of y)) i l' ∙ ap (λ (z : ℕ). reading_on rules.blank (n.link p z)) (let a : 0 + i ≡ i = omega arith in a))));
+                    let same : p ≡ q = cc in
+                    cc (look_after sd t nx i l', looks_at rules.blank (n.link p) 0 (listed (order_of y)) i l', zero-add i);
               };
             }
 
         -- by where the answer leads
         led : (sd : Said) → turn_answer kind rules x p ≡ accepted (progress_of (next y (answer_of sd))) → ModelTurn plan.patience B.then p f (some sd) n → Leads y sd → Stepped x h (Turn p) (then_at (next y (answer_of sd)))
-        led sd e_a t (to_end nx e) = subst (λ (v : Party). Stepped x h (Turn p) (then_at v)) (sym e) (finished sd (e_a ∙ ap (λ (v : Party). accepted (progress_of v)) e) t nx)
+        led sd e_a t (to_end nx e) = rw e (finished sd (cc (e_a, e)) t nx)
         led sd e_a t (to_stage v st nx e e_v e_r) =
-            subst (λ (v : Party). Stepped x h (Turn p) (then_at v)) (sym e) (went_on sd v st (e_a ∙ (ap (λ (v : Party). accepted (progress_of v)) e ∙ ap accepted e_r)) e_v t nx)
+            rw e (went_on sd v st (cc (e_a, e, e_r)) e_v t nx)
 
         said : (sd : Said) → turn_answer kind rules x p ≡ accepted (progress_of (next y (answer_of sd))) → ModelTurn plan.patience B.then p f (some sd) n → Stepped x h (Turn p) (then_at (next y (answer_of sd)))
         said sd e_a t = led sd e_a t (leads y sd (past_says rules.blank kind.amended plan log h past p (order_of y) (stage_of y) hub_task begins_at t))
 
         by_answer : (a : Answer) → turn_answer kind rules x p ≡ accepted (progress_of (next y a)) → ModelTurn plan.patience B.then p f (said_of a) n → Stepped x h (Turn p) (then_at (next y a))
         by_answer answers.Run e_a t =
-            subst (λ (v : Party). Stepped x h (Turn p) (then_at v)) (sym (next_run y)) (ran (e_a ∙ (ap (λ (v : Party). accepted (progress_of v)) (next_run y) ∙ ap accepted running.progress)) t)
+            rw (next_run y) (ran (cc (e_a, next_run y, running.progress)) t)
         by_answer answers.Taken e_a t = said taken e_a t
         by_answer answers.Stored e_a t = said put_stored e_a t
         by_answer answers.Missed e_a t = said missed e_a t
@@ -252,7 +243,7 @@ module _ {R : Type 0} (kind : KindOf R) (rules : Rules R) (plan : N.Plan) (pl : 
 
       -- the shelf accepts the turn
       shelf_tests : AllByRecursion Passed (C.tests_of (rules.plan s) (rules.means s) (C.Turn p))
-      shelf_tests = (lt-ltb _ _ (subst (λ (z : Plan). p < z.parties) (sym B.shelved.plan) in_p), (busy_true (activity_of (rules.means s) p) B.busy, tt))
+      shelf_tests = (lt-ltb _ _ (rw B.shelved.plan in_p), (busy_true (activity_of (rules.means s) p) B.busy, tt))
 
       shelf_answers : C.turn_answer rules s p ≡ accepted (rules.answer s p)
       shelf_answers = passes (C.tests_of (rules.plan s) (rules.means s) (C.Turn p)) (rules.answer s p) shelf_tests
@@ -263,14 +254,14 @@ module _ {R : Type 0} (kind : KindOf R) (rules : Rules R) (plan : N.Plan) (pl : 
       hub_answers : turn_answer kind rules x p ≡ accepted (progress_of (next y (rules.answer s p)))
       hub_answers =
           passes (tests_of kind rules x (Turn p)) (progress_of (next_at kind rules x p (party_of kind rules x p))) t
-          ∙ (ap (λ (z : Party). accepted (progress_of (next_at kind rules x p z))) e_y ∙ ap (λ (z : Outcome Answer). accepted (progress_of (next_of y z))) shelf_answers)
+          ∙ rw (e_y, shelf_answers) refl
 
       hub_turned : turned kind rules x p (party_of kind rules x p) ≡ then_at (next y (rules.answer s p))
-      hub_turned = ap (turned kind rules x p) e_y ∙ (λ i. record { shelf = shelf_turned i; table = set x.table p (next_of y (shelf_answers i)) })
+      hub_turned = rw (e_y, shelf_turned, shelf_answers) refl
 
       turn_step : Stepped x h (Turn p) (turned kind rules x p (party_of kind rules x p))
       turn_step =
-          subst (Stepped x h (Turn p)) (sym hub_turned)
+          rw hub_turned
           (by_answer T.then T.channel T.shelved T.puts (rules.answer s p) hub_answers
           (subst (λ (z : ℕ). ModelTurn z B.then p T.channel (said_of (rules.answer s p)) T.then) same_patience T.turn))
 
@@ -290,7 +281,7 @@ module _ {R : Type 0} (kind : KindOf R) (rules : Rules R) (plan : N.Plan) (pl : 
         first l (suc i) m = absurd (omega arith)
     accepted_step (Picture p cs) a =
         let len = and_parts (leb 1 (length cs)) (leb (length cs) (rules.plan x.shelf).links) a.1.1.0 in
-        order_step p (PictureTake (stored cs) 0) (picture cs) (Picture p cs) (ap (λ (z : List ℕ). doing (picture z) (taking 0)) (stored_back cs))
+        order_step p (PictureTake (record { items = cs }) 0) (picture cs) (Picture p cs) refl
         (sym (ap (order_event p (picture cs)) (passes (tests_of kind rules x (Picture p cs)) tt a))) (serves p a.0 a.1.0)
         (record {
           some_listed = let z = leb-true _ _ len.0 in omega arith;
@@ -315,7 +306,7 @@ module _ {R : Type 0} (kind : KindOf R) (rules : Rules R) (plan : N.Plan) (pl : 
     stepped k = by_way (ways (tests_of kind rules x k) (hub_after kind rules x k))
       where
         by_way : Ways (tests_of kind rules x k) (hub_after kind rules x k) → Stepped x h k (after kind rules x k)
-        by_way (all_pass t q) = subst (Stepped x h k) (sym (ap (leaves x) q)) (accepted_step k t)
+        by_way (all_pass t q) = rw (ap (leaves x) q) (accepted_step k t)
         by_way (one_refuses n q) =
-            subst (Stepped x h k) (sym (ap (leaves x) q))
+            rw (ap (leaves x) q)
             (record { heard = N.nothing; then = h; step = step_nothing; matches = mt; told = quiet kind rules x x k N.nothing (sym (refused_event kind rules x k n q)) })

@@ -1,17 +1,17 @@
 -- A turn of an exact shelf is a turn of the model.
-use Rattle.std.proofs.Common.{◌≡◌, ℕ, suc, ◌+◌, ◌-◌, ◌<◌, ◌≤◌, true, ◌≢◌, ◌⊎◌, sym, refl, ap, ◌∙◌, subst, inl, inr, arith}
+use Rattle.std.proofs.Common.{◌≡◌, ℕ, suc, ◌+◌, ◌-◌, ◌<◌, ◌≤◌, ◌≢◌, ◌⊎◌, sym, refl, ap, ◌∙◌, subst, inl, inr, arith}
 use mathlib.Core.Option.{Option, none, some}
 use native.Mathlib.Decide.{ℕ_discrete}
 use Rattle.std.proofs.lemmas.Bool.{cases_lt}
 use Rattle.shelf.specs.declared.answer.Answer.{Answer}
 use Rattle.shelf.specs.declared.answer.Answer.TheVariants.{Run, Taken, Stored, Missed, Live, Broken}
 use Rattle.plan.specs.declared.check.Plan.{Plan}
-use Rattle.shelf.specs.Meaning.{flat, Link, holds, Operation, take, put, check, Activity, idle, waits, in_force, Meaning, link_at, activity_of, does, brought, Turned, alters_nothing, comes, ends, comes_and_ends, Stores, is_on}
+use Rattle.shelf.specs.Meaning.{flat, Link, Operation, take, put, check, Activity, idle, waits, in_force, Meaning, link_at, activity_of, does, brought, Turned, alters_nothing, comes, ends, comes_and_ends, Stores, is_on}
 use Rattle.shelf.specs.Rules.{Rules}
 use Rattle.history.specs.Board.{updated}
 use Rattle.history.proofs.Shelf.{Said, taken, stored, missed, live, broken, Job, rests, awaits, forced, Shelf, OperationOn, On, Others, Turn, turn_still, turn_force, turn_end, turn_both}
-use Rattle.history.proofs.Basics.{never, updated_same, updated_other, updated_twice, at_party}
-use Rattle.hub_rules.proofs.Match.{answer_of, flat_operation, CanWait, DoesAs, Fits, Shelved}
+use Rattle.history.proofs.Basics.{updated_same, updated_other, updated_twice, at_party}
+use Rattle.hub_rules.proofs.Match.{answer_of, flat_operation, CanWait, DoesAs, Fits, Shelved, does_at}
 use Rattle.hub_rules.proofs.Force.{WaitsToStore, Forced, StoresOn, force, rest_again}
 
 -- the answer that a turn hands over
@@ -33,24 +33,24 @@ said_back broken = refl
 module _ {R : Type 0} (pl : Plan) where
   -- which job it is, from what the party does
   pub job_waits : (p : ℕ) (l : ℕ → Link R) (d : Activity R) (o : Operation R) (J : Job R) → DoesAs pl p l d J → d ≡ waits o → (a : Operation R) × (J ≡ awaits a) × (o ≡ flat_operation pl p a)
-  job_waits p l d o rests h e = absurd (never (cc (h, e)))
-  job_waits p l d o (awaits a) h e = (a, refl, let f = h.0 in cc)
-  job_waits p l d o (forced a sd) h e = absurd (never (cc (h, e)))
+  job_waits p l d o rests h e = absurd cc
+  job_waits p l d o (awaits a) h e = (a, refl, cc h.0)
+  job_waits p l d o (forced a sd) h e = absurd cc
 
   pub job_forced : (p : ℕ) (l : ℕ → Link R) (d : Activity R) (x : Answer) (J : Job R) → DoesAs pl p l d J → d ≡ in_force x → (a : Operation R) × (sd : Said) × (J ≡ forced a sd) × (x ≡ answer_of sd)
-  job_forced p l d x rests h e = absurd (never (cc (h, e)))
-  job_forced p l d x (awaits a) h e = absurd (never (let f = h.0 in cc (f, e)))
+  job_forced p l d x rests h e = absurd cc
+  job_forced p l d x (awaits a) h e = absurd (cc h.0)
   job_forced p l d x (forced a sd) h e = (a, sd, refl, cc (h, e))
 
   pub job_idle : (p : ℕ) (l : ℕ → Link R) (d : Activity R) (J : Job R) → DoesAs pl p l d J → d ≡ idle → J ≡ rests
   job_idle p l d rests h e = refl
-  job_idle p l d (awaits a) h e = absurd (never (let f = h.0 in cc (f, e)))
-  job_idle p l d (forced a sd) h e = absurd (never (cc (h, e)))
+  job_idle p l d (awaits a) h e = absurd (cc h.0)
+  job_idle p l d (forced a sd) h e = absurd cc
 
   pub busy_back : (p : ℕ) (l l' : ℕ → Link R) (d d' : Activity R) (J : Job R) → DoesAs pl p l d J → DoesAs pl p l' d' J → d' ≢ idle → d ≢ idle
   busy_back p l l' d d' rests h h' n e = n h'
-  busy_back p l l' d d' (awaits a) h h' n e = never (let f = h.0 in cc (f, e))
-  busy_back p l l' d d' (forced a sd) h h' n e = never (cc (h, e))
+  busy_back p l l' d d' (awaits a) h h' n e = cc h.0
+  busy_back p l l' d d' (forced a sd) h h' n e = cc
 
   -- the channel of a waiting operation
   act_on : (p : ℕ) (M : Meaning R) (l : ℕ → Link R) (a : Operation R) (c : ℕ) → ((i : ℕ) → i < pl.links → link_at M (flat pl p i) ≡ l i) → CanWait pl l a → is_on M (waits (flat_operation pl p a)) c → OperationOn l a c
@@ -59,9 +59,9 @@ module _ {R : Type 0} (pl : Plan) where
   act_on p M l (check i) c h ok o = (o.0, o.1, sym (h i ok.0) ∙ o.2)
 
   on_channel : (p : ℕ) (M : Meaning R) (l : ℕ → Link R) (d : Activity R) (J : Job R) (c : ℕ) → ((i : ℕ) → i < pl.links → link_at M (flat pl p i) ≡ l i) → DoesAs pl p l d J → is_on M d c → On l J c
-  on_channel p M l d rests c h D o = subst (λ (x : Activity R). is_on M x c) D o
-  on_channel p M l d (awaits a) c h D o = act_on p M l a c h D.1 (subst (λ (x : Activity R). is_on M x c) D.0 o)
-  on_channel p M l d (forced a sd) c h D o = absurd (subst (λ (x : Activity R). is_on M x c) D o)
+  on_channel p M l d rests c h D o = rw D at o
+  on_channel p M l d (awaits a) c h D o = act_on p M l a c h D.1 (rw D.0 at o)
+  on_channel p M l d (forced a sd) c h D o = absurd (rw D at o)
 
 module _ {R : Type 0} (rules : Rules R) (pl : Plan) (w : ℕ) where
   -- a turn of party p, in the model and exactly
@@ -80,16 +80,16 @@ module _ {R : Type 0} (rules : Rules R) (pl : Plan) (w : ℕ) where
     M = rules.means s
 
     in_plan : (q : ℕ) → q < pl.parties → q < (rules.plan s).parties
-    in_plan q h = subst (λ (x : Plan). q < x.parties) (sym ok.plan) h
+    in_plan q h = rw ok.plan h
 
     in_plan' : (q : ℕ) → q < pl.parties → q < (rules.plan t).parties
-    in_plan' q h = subst (λ (x : Plan). q < x.parties) (sym ((rules.turns s p ok.sound (in_plan p in_p) busy).1 ∙ ok.plan)) h
+    in_plan' q h = rw ((rules.turns s p ok.sound (in_plan p in_p) busy).1, ok.plan) h
 
     sound' : rules.sound t
     sound' = (rules.turns s p ok.sound (in_plan p in_p) busy).0
 
     most' : (q : ℕ) → q < pl.parties → rules.left t q ≤ w + 1
-    most' q h = subst (λ (n : ℕ). rules.left t q ≤ n + 1) ((rules.turns s p ok.sound (in_plan p in_p) busy).2 ∙ ok.patience) (rules.most t q sound' (in_plan' q h))
+    most' q h = rw (← ok.patience, ← (rules.turns s p ok.sound (in_plan p in_p) busy).2) (rules.most t q sound' (in_plan' q h))
 
     -- the party's own turns left fall where it goes on
     own_left : activity_of (rules.means t) p ≢ idle → rules.left t p - 1 < m.left p
@@ -111,19 +111,20 @@ module _ {R : Type 0} (rules : Rules R) (pl : Plan) (w : ℕ) where
     abbrev Pick : ℕ → ℕ → Type 0
     Pick c q = (n : ℕ) × (q ≢ p → (n ≡ m.left q) ⊎ ((n ≤ w) × On (m.link q) (m.job q) c)) × (q ≢ p → q < pl.parties → activity_of M q ≢ idle → rules.left t q ≤ suc n)
 
-    lefts : (f : Option ℕ) → StoresOn rules.blank pl M p f → Lefts f
-    lefts none no_put = record { left' = m.left; others = λ q ne. refl; bound = λ q ne h b. go q h b (rules.stays s p q ok.sound (in_plan p in_p) (in_plan q h) ne busy) }
+    -- where nothing is stored, their turns left do not rise
+    kept_left : ((c : ℕ) → Stores M (rules.means t) p c → ⊥) → (q : ℕ) → q ≢ p → q < pl.parties → activity_of M q ≢ idle → rules.left t q ≤ suc (m.left q)
+    kept_left nothing q ne h b = go (rules.stays s p q ok.sound (in_plan p in_p) (in_plan q h) ne busy)
       where
-        go : (q : ℕ) → q < pl.parties → activity_of M q ≢ idle → (rules.left t q ≤ rules.left s q) ⊎ ((c : ℕ) × Stores M (rules.means t) p c × is_on M (activity_of M q) c) → rules.left t q ≤ suc (m.left q)
-        go q h b (inl l) = let k = ok.left q h b in omega arith
-        go q h b (inr z) = absurd (no_put z.0 (waiting z.0 z.1))
+        go : (rules.left t q ≤ rules.left s q) ⊎ ((c : ℕ) × Stores M (rules.means t) p c × is_on M (activity_of M q) c) → rules.left t q ≤ suc (m.left q)
+        go (inl l) = let k = ok.left q h b in omega arith
+        go (inr z) = absurd (nothing z.0 z.1)
+
+    lefts : (f : Option ℕ) → StoresOn rules.blank pl M p f → Lefts f
+    lefts none no_put = record { left' = m.left; others = λ q ne. refl; bound = kept_left (λ c z. no_put c (waiting c z)) }
     lefts (some c) put_on = record { left' = λ q. (pick q).0; others = λ q ne. (pick q).1 ne; bound = λ q ne h b. (pick q).2 ne h b }
       where
         same_channel : (c' : ℕ) → WaitsToStore M p c' → c' ≡ c
-        same_channel c' z =
-            let one : z.link ≡ put_on.link = (let e1 = z.puts in let e2 = put_on.puts in cc (e1, e2)) in
-            let l1 : link_at M put_on.link ≡ holds c' z.seen true = ap (link_at M) (sym one) ∙ z.alive in
-            let l2 = put_on.alive in cc (l1, l2)
+        same_channel c' z = cc
 
         by_stays : (q : ℕ) → q < pl.parties → (rules.left t q ≤ rules.left s q) ⊎ ((c' : ℕ) × Stores M (rules.means t) p c' × is_on M (activity_of M q) c')
             → Pick c q
@@ -133,7 +134,7 @@ module _ {R : Type 0} (rules : Rules R) (pl : Plan) (w : ℕ) where
           (λ ne. inr (
             let k = most' q h in omega arith,
             on_channel pl q M (m.link q) (activity_of M q) (m.job q) c (λ i l. ok.fits.links q i h l) (ok.fits.activities q h)
-                (subst (is_on M (activity_of M q)) (same_channel z.0 (waiting z.0 z.1)) z.2),
+                (rw (← same_channel z.0 (waiting z.0 z.1)) z.2),
           )),
           λ ne h' b. omega arith,
         )
@@ -159,9 +160,9 @@ module _ {R : Type 0} (rules : Rules R) (pl : Plan) (w : ℕ) where
       plan = (rules.turns s p ok.sound (in_plan p in_p) busy).1 ∙ ok.plan;
       patience = (rules.turns s p ok.sound (in_plan p in_p) busy).2 ∙ ok.patience;
       fits = F;
-      left = at_party p (λ q. q < pl.parties → activity_of (rules.means t) q ≢ idle → rules.left t q ≤ suc (m'.left q)) (λ h b. own b)
+      left = at_party p (λ q. q < pl.parties → activity_of (rules.means t) q ≢ idle → rules.left t q ≤ suc (m'.left q)) (λ h. own)
           (λ q ne h b. others q ne h (busy_back pl q (m.link q) (m'.link q) (activity_of M q) (activity_of (rules.means t) q) (m.job q) (ok.fits.activities q h)
-          (subst (DoesAs pl q (m'.link q) (activity_of (rules.means t) q)) (same q ne) (F.activities q h)) b));
+          (does_at F q (m.job q) h (same q ne)) b));
     }
 
     moved : (c : ℕ) (x : Activity R) → activity_of (rules.means t) p ≡ x → ((o : Operation R) → x ≡ waits o → ⊥) → WaitsToStore M p c → Stores M (rules.means t) p c
@@ -174,34 +175,34 @@ module _ {R : Type 0} (rules : Rules R) (pl : Plan) (w : ℕ) where
     }
 
     comes_to_store : (x : Activity R) → activity_of (rules.means t) p ≡ x → ((o : Operation R) → x ≡ waits o → ⊥) → (f : Option ℕ) → StoresOn rules.blank pl M p f → (c : ℕ) → f ≡ some c → Stores M (rules.means t) p c
-    comes_to_store x e n none so c k = absurd (never (cc (k)))
-    comes_to_store x e n (some d) so c k = moved c x e n (subst (WaitsToStore M p) (let q : d ≡ c = cc (k) in q) so)
+    comes_to_store x e n none so c k = absurd cc
+    comes_to_store x e n (some d) so c k = let q : d ≡ c = cc in moved c x e n (rw (← q) so)
 
     still : rules.answer s p ≡ Run → rules.means t ≡ M → TurnMatched s m p
     still e_a e_m =
-        let on : activity_of (rules.means t) p ≢ idle = λ e. busy (ap (λ (x : Meaning R). activity_of x p) (sym e_m) ∙ e) in
+        let on : activity_of (rules.means t) p ≢ idle = λ e. busy (rw e_m at e) in
         let n = rules.left t p - 1 in
         record {
           channel = none;
           then = record { reading = m.reading; link = m.link; job = m.job; left = updated m.left p n };
-          turn = subst (λ (a : Answer). Turn w m p none (said_of a) (record { reading = m.reading; link = m.link; job = m.job; left = updated m.left p n })) (sym e_a)
+          turn = rw e_a
               (turn_still n (own_left on) (λ e. busy (idle_rests e)));
           shelved = close (record { reading = m.reading; link = m.link; job = m.job; left = updated m.left p n })
-              (subst (λ (x : Meaning R). Fits rules.blank pl x m.reading m.link m.job) (sym e_m) ok.fits) (λ q ne. refl)
+              (rw e_m ok.fits) (λ q ne. refl)
               (λ q ne h b. let e = updated_other m.left p n q ne in let k = others q ne h b in omega arith)
               (λ b. let e = updated_same m.left p n in omega arith);
-          puts = λ c e. absurd (never (cc (e)));
+          puts = λ c e. absurd cc;
         }
       where
         idle_rests : m.job p ≡ rests → activity_of M p ≡ idle
-        idle_rests e = subst (DoesAs pl p (m.link p) (activity_of M p)) e (ok.fits.activities p in_p)
+        idle_rests e = does_at ok.fits p rests in_p e
 
         others : (q : ℕ) → q ≢ p → q < pl.parties → activity_of M q ≢ idle → rules.left t q ≤ suc (m.left q)
-        others q ne h b = go (rules.stays s p q ok.sound (in_plan p in_p) (in_plan q h) ne busy)
-          where
-            go : (rules.left t q ≤ rules.left s q) ⊎ ((c : ℕ) × Stores M (rules.means t) p c × is_on M (activity_of M q) c) → rules.left t q ≤ suc (m.left q)
-            go (inl l) = let k = ok.left q h b in omega arith
-            go (inr z) = absurd (z.1.comes.waits_no_more (ap (λ (x : Meaning R). activity_of x p) e_m ∙ z.1.comes.waited))
+        others = kept_left (λ c z. z.comes.waits_no_more (rw e_m z.comes.waited))
+
+    others_updated : (f : Option ℕ) (l : ℕ → ℕ) (n : ℕ) → Others w m p f l → Others w m p f (updated l p n)
+    others_updated none l n o = λ q ne. rw (updated_other l p n q ne) (o q ne)
+    others_updated (some c) l n o = λ q ne. rw (updated_other l p n q ne) (o q ne)
 
     -- the operation in force
     module _ (o : Operation R) (e_d : activity_of M p ≡ waits o) where
@@ -215,32 +216,28 @@ module _ {R : Type 0} (rules : Rules R) (pl : Plan) (w : ℕ) where
       brought_fits = subst (λ (x : Operation R). Fits rules.blank pl (brought rules.blank M p x) G.reading' G.link' (updated m.job p (forced act.0 G.said))) (sym act.2) G.fits
 
       forced_now : activity_of (brought rules.blank M p o) p ≡ in_force (answer_of G.said)
-      forced_now = subst (DoesAs pl p (G.link' p) (activity_of (brought rules.blank M p o) p)) (updated_same m.job p (forced act.0 G.said)) (brought_fits.activities p in_p)
+      forced_now = does_at brought_fits p (forced act.0 G.said) in_p (updated_same m.job p (forced act.0 G.said))
 
       come : rules.answer s p ≡ Run → rules.means t ≡ brought rules.blank M p o → TurnMatched s m p
       come e_a e_m =
           let ls = lefts G.channel G.stored_on in
-          let e_now : activity_of (rules.means t) p ≡ in_force (answer_of G.said) = ap (λ (x : Meaning R). activity_of x p) e_m ∙ forced_now in
-          let on : activity_of (rules.means t) p ≢ idle = λ e. never (cc (e, e_now)) in
+          let e_now : activity_of (rules.means t) p ≡ in_force (answer_of G.said) = rw e_m forced_now in
+          let on : activity_of (rules.means t) p ≢ idle = λ e. cc in
           let n = rules.left t p - 1 in
           let left'' = updated ls.left' p n in
           let m' : Shelf R = record { reading = G.reading'; link = G.link'; job = updated m.job p (forced act.0 G.said); left = left'' } in
           record {
             channel = G.channel;
             then = m';
-            turn = subst (λ (a : Answer). Turn w m p G.channel (said_of a) m') (sym e_a)
+            turn = rw e_a
                 (turn_force act.0 G.channel G.said G.reading' G.link' left'' act.1 G.forces (let e = updated_same ls.left' p n in let k = own_left on in omega arith)
                 (others_updated G.channel ls.left' n ls.others));
-            shelved = close m' (subst (λ (x : Meaning R). Fits rules.blank pl x G.reading' G.link' (updated m.job p (forced act.0 G.said))) (sym e_m) brought_fits)
+            shelved = close m' (rw e_m brought_fits)
                 (λ q ne. updated_other m.job p _ q ne)
                 (λ q ne h b. let e = updated_other ls.left' p n q ne in let k = ls.bound q ne h b in omega arith)
                 (λ b. let e = updated_same ls.left' p n in omega arith);
-            puts = comes_to_store (in_force (answer_of G.said)) e_now (λ o' k. never (cc (k))) G.channel G.stored_on;
+            puts = comes_to_store (in_force (answer_of G.said)) e_now (λ o' k. cc) G.channel G.stored_on;
           }
-        where
-          others_updated : (f : Option ℕ) (l : ℕ → ℕ) (n : ℕ) → Others w m p f l → Others w m p f (updated l p n)
-          others_updated none l n o = λ q ne. updated_other l p n q ne ∙ o q ne
-          others_updated (some c) l n o = λ q ne. subst (λ (k : ℕ). (k ≡ m.left q) ⊎ ((k ≤ w) × On (m.link q) (m.job q) c)) (sym (updated_other l p n q ne)) (o q ne)
 
       come_end : (a : Answer) → rules.answer s p ≡ a → activity_of (brought rules.blank M p o) p ≡ in_force a → rules.means t ≡ does (brought rules.blank M p o) p idle → TurnMatched s m p
       come_end a e_a e_f e_m =
@@ -248,26 +245,22 @@ module _ {R : Type 0} (rules : Rules R) (pl : Plan) (w : ℕ) where
           let left'' = updated ls.left' p 0 in
           let m' : Shelf R = record { reading = G.reading'; link = G.link'; job = updated m.job p rests; left = left'' } in
           let F' : Fits rules.blank pl (rules.means t) G.reading' G.link' (updated m.job p rests) =
-          subst (λ (x : Meaning R). Fits rules.blank pl x G.reading' G.link' (updated m.job p rests)) (sym e_m)
-          (subst (Fits rules.blank pl (does (brought rules.blank M p o) p idle) G.reading' G.link') (updated_twice m.job p (forced act.0 G.said) rests)
+          rw e_m
+          (rw (← updated_twice m.job p (forced act.0 G.said) rests)
           (rest_again rules.blank pl (brought rules.blank M p o) G.reading' G.link' (updated m.job p (forced act.0 G.said)) p in_p brought_fits)) in
-          let rest : activity_of (rules.means t) p ≡ idle = subst (DoesAs pl p (G.link' p) (activity_of (rules.means t) p)) (updated_same m.job p rests) (F'.activities p in_p) in
+          let rest : activity_of (rules.means t) p ≡ idle = does_at F' p rests in_p (updated_same m.job p rests) in
           let e_s : said_of (rules.answer s p) ≡ some G.said = ap said_of (e_a ∙ (let f = forced_now in cc (e_f, f))) ∙ said_back G.said in
           record {
             channel = G.channel;
             then = m';
-            turn = subst (λ (x : Option Said). Turn w m p G.channel x m') (sym e_s)
+            turn = rw e_s
                 (turn_both act.0 G.channel G.said G.reading' G.link' left'' act.1 G.forces (let e = updated_same ls.left' p 0 in omega arith)
                 (others_updated G.channel ls.left' 0 ls.others));
             shelved = close m' F' (λ q ne. updated_other m.job p _ q ne)
                 (λ q ne h b. let e = updated_other ls.left' p 0 q ne in let k = ls.bound q ne h b in omega arith)
                 (λ b. absurd (b rest));
-            puts = comes_to_store idle rest (λ o' k. never (cc (k))) G.channel G.stored_on;
+            puts = comes_to_store idle rest (λ o' k. cc) G.channel G.stored_on;
           }
-        where
-          others_updated : (f : Option ℕ) (l : ℕ → ℕ) (n : ℕ) → Others w m p f l → Others w m p f (updated l p n)
-          others_updated none l n o = λ q ne. updated_other l p n q ne ∙ o q ne
-          others_updated (some c) l n o = λ q ne. subst (λ (k : ℕ). (k ≡ m.left q) ⊎ ((k ≤ w) × On (m.link q) (m.job q) c)) (sym (updated_other l p n q ne)) (o q ne)
 
     -- the answer handed over
     end : (a : Answer) → rules.answer s p ≡ a → activity_of M p ≡ in_force a → rules.means t ≡ does M p idle → TurnMatched s m p
@@ -275,23 +268,16 @@ module _ {R : Type 0} (rules : Rules R) (pl : Plan) (w : ℕ) where
         let j = job_forced pl p (m.link p) (activity_of M p) a (m.job p) (ok.fits.activities p in_p) e_d in
         let m' : Shelf R = record { reading = m.reading; link = m.link; job = updated m.job p rests; left = m.left } in
         let F' : Fits rules.blank pl (rules.means t) m.reading m.link (updated m.job p rests) =
-        subst (λ (x : Meaning R). Fits rules.blank pl x m.reading m.link (updated m.job p rests)) (sym e_m) (rest_again rules.blank pl M m.reading m.link m.job p in_p ok.fits) in
-        let rest : activity_of (rules.means t) p ≡ idle = subst (DoesAs pl p (m.link p) (activity_of (rules.means t) p)) (updated_same m.job p rests) (F'.activities p in_p) in
+        rw e_m (rest_again rules.blank pl M m.reading m.link m.job p in_p ok.fits) in
+        let rest : activity_of (rules.means t) p ≡ idle = does_at F' p rests in_p (updated_same m.job p rests) in
         let e_s : said_of (rules.answer s p) ≡ some j.1 = ap said_of (e_a ∙ j.3) ∙ said_back j.1 in
         record {
           channel = none;
           then = m';
-          turn = subst (λ (x : Option Said). Turn w m p none x m') (sym e_s) (turn_end j.0 j.1 j.2);
-          shelved = close m' F' (λ q ne. updated_other m.job p _ q ne) (λ q ne h b. bound q ne h b) (λ b. absurd (b rest));
-          puts = λ c e. absurd (never (cc (e)));
+          turn = rw e_s (turn_end j.0 j.1 j.2);
+          shelved = close m' F' (λ q ne. updated_other m.job p _ q ne) (kept_left (λ c z. let e = z.comes.waited in cc)) (λ b. absurd (b rest));
+          puts = λ c e. absurd cc;
         }
-      where
-        bound : (q : ℕ) → q ≢ p → q < pl.parties → activity_of M q ≢ idle → rules.left t q ≤ suc (m.left q)
-        bound q ne h b = go (rules.stays s p q ok.sound (in_plan p in_p) (in_plan q h) ne busy)
-          where
-            go : (rules.left t q ≤ rules.left s q) ⊎ ((c : ℕ) × Stores M (rules.means t) p c × is_on M (activity_of M q) c) → rules.left t q ≤ suc (m.left q)
-            go (inl l) = let k = ok.left q h b in omega arith
-            go (inr z) = absurd (never (let e = z.1.comes.waited in cc (e, e_d)))
 
     by_turn : (a : Answer) (M' : Meaning R) → Turned rules.blank M p a M' → rules.answer s p ≡ a → rules.means t ≡ M' → TurnMatched s m p
     by_turn a M' (alters_nothing) e_a e_m = still e_a e_m
