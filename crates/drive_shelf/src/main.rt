@@ -19,12 +19,6 @@ use std::io::Read;
 // What every block holds before the making.
 const BEFORE: Tally = Tally { count: 9999 };
 
-fn read_input(rt: &HostRuntime) -> io::Result<Vec<u8>> {
-    let mut bytes = Vec::new(rt.alloc());
-    rt.stdin().take(MOST_BYTES).read_to_end(&mut bytes)?;
-    Ok(bytes)
-}
-
 fn print_blocks(rt: &HostRuntime, blocks: &[Tally]) -> io::Result<()> {
     print!(rt; "blocks")?;
     for block in blocks {
@@ -43,7 +37,8 @@ fn shelf_type(code: u8) -> ShelfType {
 }
 
 fn run(rt: &HostRuntime) -> anyhow::Result<()> {
-    let bytes = read_input(rt)?;
+    let mut bytes = Vec::new(rt.alloc());
+    rt.stdin().take(MOST_BYTES).read_to_end(&mut bytes)?;
     let [code, parties, links, channels, high, low, calls @ ..] = bytes.as_slice() else {
         return Ok(());
     };
