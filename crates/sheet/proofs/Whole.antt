@@ -1,44 +1,62 @@
 -- A whole sheet: from the bytes to what they say.
-use Rattle.std.proofs.Common.{◌≡◌, ℕ, ◌<◌, ◌≤◌, List, [], ◌∷◌, ◌++◌, map, length, drop, Some, Option, sym, ap, ◌∙◌, subst, arith}
+use Rattle.std.proofs.Common.{◌≡◌, ℕ, ◌<◌, ◌≤◌, List, [], ◌∷◌, ◌++◌, cond, map, length, Some, None, Option, sym, ap, ◌∙◌, subst, arith}
 use Rattle.std.specs.Int.Digits.{AllBelowBase}
-use Rattle.std.proofs.ByRecursion.{All-drop}
-use Rattle.std.proofs.lemmas.List.{map_push, length_push, length-map, length-drop}
+use Rattle.std.proofs.lemmas.List.{map_push, length_push, length-map}
 use Rattle.sheet_rules.specs.Bits.{bits_of}
 use Rattle.sheet_rules.specs.Contents.{Header, Entry, Fault, fault_at, Contents, nothing_but, read_to}
-use Rattle.sheet_rules.specs.Formats.{got, fails, read_as, header_format, entry_format}
-use Rattle.sheet_rules.specs.Sheets.{Ends, too_long, ReadRight}
+use Rattle.sheet_rules.specs.Formats.{got, fails, read_as, header_format, entry_format, only_fill}
+use Rattle.sheet_rules.specs.Sheets.{packed_entries, most_bits, Ends, too_long, ReadRight}
 use Rattle.sheet_rules.proofs.Bytes.{length_bits, under_bits}
-use Rattle.sheet_rules.proofs.Following.{Leads, leads_few, leads_more, header_says, header_says_fault}
-use Rattle.sheet_rules.proofs.Meaning.{read_right}
-use Rattle.sheet.specs.Left.{left}
+use Rattle.sheet_rules.proofs.Reading.{read_got, read_place, read_under}
+use Rattle.sheet_rules.proofs.Following.{Leads, leads_few, leads_more, fewer_left, leads_fails, leads_end, header_says, header_says_fault}
+use Rattle.sheet_rules.proofs.Meaning.{read_right, under_rest}
+use Rattle.sheet.specs.Rest.{Rest}
 use Rattle.sheet.specs.Told.{record_told}
-use Rattle.sheet.specs.declared.bit_reader.BitReader.{BitReader}
 use Rattle.sheet.specs.declared.words.Record.{Record}
 
-pub under_left : (r : BitReader) → AllBelowBase 2 (left r)
-unfolding left
-under_left r = All-drop (λ d. d < 2) r.at (bits_of r.bytes.now) (under_bits r.bytes.now)
+-- what a header leaves of a sheet's bits are bits, and no more of them
+pub under_header : (bytes : List ℕ) (h : Header) (rest : List ℕ) (k : ℕ) → got h rest k ≡ read_as header_format (bits_of bytes) 0 → AllBelowBase 2 rest
+under_header bytes h rest k r =
+    let u = under_bits bytes in
+    read_under header_format (bits_of bytes) h rest u (read_got header_format (bits_of bytes) 0 h rest k u (sym r))
 
--- a fresh reader has all bits left
-pub all_left : (r : BitReader) → r.at ≡ 0 → left r ≡ bits_of r.bytes.now
-unfolding left
-all_left r e = ap (λ (k : ℕ). drop k (bits_of r.bytes.now)) e
+pub short_header : (bytes : List ℕ) (h : Header) (rest : List ℕ) (k : ℕ) → got h rest k ≡ read_as header_format (bits_of bytes) 0
+    → length bytes ≤ 65536 → length rest ≤ most_bits
+short_header bytes h rest k r s =
+    omega (arith, read_place header_format (bits_of bytes) 0 h rest k (under_bits bytes) (sym r), length_bits bytes)
 
--- one record more
-pub record_more : (bits : List ℕ) (k : ℕ) (rs : List Record) (rest : List ℕ) (k' : ℕ) (x : Record) (rs' : List Record) (rest' : List ℕ) (k'' : ℕ)
-    → Leads bits k (map record_told rs) rest k' → AllBelowBase 2 rest → rs' ≡ rs ++ (x ∷ [])
-    → got (Some (record_told x)) rest' k'' ≡ read_as entry_format rest k' → Leads bits k (map record_told rs') rest' k''
-record_more bits k rs rest k' x rs' rest' k'' so_far u e r =
-    subst (λ (es : List Entry). Leads bits k es rest' k'') (sym (ap (map record_told) e ∙ map_push record_told rs x))
-    (leads_more bits k (map record_told rs) rest k' so_far u (record_told x) rest' k'' r)
+-- a turn of the reader: the records so far lead from the first rest to the rest that is read on
+module _ (first rest : Rest) (rs : List Record) (so_far : Leads first.bits first.place (map record_told rs) rest.bits rest.place) (u : AllBelowBase 2 first.bits) where
+  under_led : AllBelowBase 2 rest.bits
+  under_led = under_rest (packed_entries (map record_told rs)) rest.bits (subst (λ (xs : List ℕ). AllBelowBase 2 xs) so_far.packs u)
 
--- with one record more there are at most 65,536
-pub record_fits : (r : BitReader) (rs : List Record) (rest : List ℕ) (k' : ℕ) (x : Record) (rest' : List ℕ) (k'' : ℕ)
-    → Leads (left r) r.at (map record_told rs) rest k' → AllBelowBase 2 rest → got (Some (record_told x)) rest' k'' ≡ read_as entry_format rest k' → length rs < 65536
-unfolding left
-record_fits r rs rest k' x rest' k'' so_far u e =
-    let more = leads_few (left r) r.at (map record_told rs ++ (record_told x ∷ [])) rest' k'' (leads_more (left r) r.at (map record_told rs) rest k' so_far u (record_told x) rest' k'' e) in
-    omega (arith, more, length_push (map record_told rs) (record_told x), length-map rs record_told, length-drop r.at (bits_of r.bytes.now), length_bits r.bytes.now, r.short)
+  pub fault_ends : (f : Fault) → fails f ≡ read_as entry_format rest.bits rest.place → Ends first.bits first.place (map record_told rs) (Some f)
+  fault_ends f r = leads_fails first.bits first.place (map record_told rs) rest.bits rest.place so_far under_led f r
+
+  pub end_ends : (after : Rest) → got None after.bits after.place ≡ read_as entry_format rest.bits rest.place
+      → Ends first.bits first.place (map record_told rs) (cond (only_fill after.bits) None (Some (fault_at 23 after.place)))
+  end_ends after r = leads_end first.bits first.place (map record_told rs) rest.bits rest.place so_far under_led after.bits after.place r
+
+  module _ (x : Record) (after : Rest) (r : got (Some (record_told x)) after.bits after.place ≡ read_as entry_format rest.bits rest.place) where
+    pub record_shortens : length after.bits < length rest.bits
+    record_shortens = fewer_left first.bits first.place (map record_told rs) rest.bits rest.place so_far under_led (record_told x) after.bits after.place r
+
+    led_on : Leads first.bits first.place (map record_told rs ++ (record_told x ∷ [])) after.bits after.place
+    led_on = leads_more first.bits first.place (map record_told rs) rest.bits rest.place so_far under_led (record_told x) after.bits after.place r
+
+    pub record_leads : (rs' : List Record) → rs' ≡ rs ++ (x ∷ []) → Leads first.bits first.place (map record_told rs') after.bits after.place
+    record_leads rs' e =
+        subst (λ (es : List Entry). Leads first.bits first.place es after.bits after.place) (sym (ap (map record_told) e ∙ map_push record_told rs x)) led_on
+
+    -- with one record more there are at most 65,536
+    pub record_fits : length first.bits ≤ most_bits → length rs < 65536
+    record_fits s =
+        omega (
+          arith,
+          leads_few first.bits first.place (map record_told rs ++ (record_told x ∷ [])) after.bits after.place led_on,
+          length_push (map record_told rs) (record_told x),
+          length-map rs record_told,
+        )
 
 module _ (bytes : List ℕ) where
   pub sheet_too_long : 65536 < length bytes → (c : Contents) → c ≡ nothing_but (fault_at 24 0) → ReadRight (bits_of bytes) c

@@ -1,7 +1,5 @@
 //! Sheets in plain words, as people read them.
-use crate::channel_list::ChannelList;
 use crate::words::{Fault, Header, Kind, Layer, Record};
-use plan::check::ShelfType;
 use std::fmt;
 
 impl fmt::Display for Kind {
@@ -13,17 +11,10 @@ impl fmt::Display for Kind {
     }
 }
 
-fn shelf_name(shelf: ShelfType) -> &'static str {
-    match shelf {
-        ShelfType::Flag => "flag",
-        ShelfType::Block => "block",
-    }
-}
-
 impl fmt::Display for Header {
     fn fmt<W: fmt::Write>(&self, f: &mut fmt::Formatter<W>) -> fmt::Result {
         let kind = self.kind;
-        let shelf = shelf_name(self.shelf);
+        let shelf = self.shelf;
         let plan = self.plan;
         let parties = plan.parties;
         let links = plan.links;
@@ -35,22 +26,9 @@ impl fmt::Display for Header {
     }
 }
 
-impl fmt::Display for ChannelList {
-    fn fmt<W: fmt::Write>(&self, f: &mut fmt::Formatter<W>) -> fmt::Result {
-        let channels = self.as_slice();
-        if channels.is_empty() {
-            return f.write_str(" none");
-        }
-        for channel in channels {
-            write!(f, " {channel}")?;
-        }
-        Ok(())
-    }
-}
-
 impl fmt::Display for Record {
     fn fmt<W: fmt::Write>(&self, f: &mut fmt::Formatter<W>) -> fmt::Result {
-        match *self {
+        match self {
             Record::Amendment {
                 party,
                 channel,
@@ -61,10 +39,16 @@ impl fmt::Display for Record {
                     "amendment party {party} channel {channel} word 0x{word:016X}"
                 )
             }
-            Record::Picture { party, channels } => write!(
-                f,
-                "picture party {party} channels{channels}"
-            ),
+            Record::Picture { party, channels } => {
+                write!(f, "picture party {party} channels")?;
+                if channels.is_empty() {
+                    return f.write_str(" none");
+                }
+                for channel in channels {
+                    write!(f, " {channel}")?;
+                }
+                Ok(())
+            }
             Record::Turn { party } => write!(f, "turn party {party}"),
             Record::Release { party } => write!(f, "release party {party}"),
             Record::Look { party, link } => write!(f, "look party {party} link {link}"),
