@@ -1,10 +1,12 @@
 -- Reading a format field by field, each by a call that reads one field alone.
-use Rattle.std.proofs.Common.{◌≡◌, ℕ, ◌+◌, Bool, true, false, cond, List, drop, Some, None, Option, ap, ◌∙◌, arith}
+use Rattle.std.proofs.Common.{◌≡◌, ℕ, ◌+◌, Bool, true, false, cond, List, drop, Some, None, Option, refl, ap, ◌∙◌, arith}
 use Rattle.sheet_rules.specs.Bits.{field_in}
 use Rattle.sheet_rules.specs.Contents.{Fault, fault_at}
 use Rattle.sheet_rules.specs.Formats.{Format, gives, field, Read, got, fails, field_or, read_as}
+use Rattle.sheet.specs.Rest.{Rest}
 use Rattle.sheet.specs.Told.{one}
 
+infixl 5 ◌▸◌
 module _ {B : Type 0} where
   -- what follows a value
   abbrev pub next : Format B → ℕ → Format B
@@ -49,7 +51,7 @@ module _ {B : Type 0} where
   not_got d v bits k r e = let z : ◌≡◌ {A = ℕ} 0 1 = cc in absurd (omega arith)
 
   -- a field was read, and reading goes on behind it
-  pub on : (g : Format B) (bits : List ℕ) (k v : ℕ) (rest : List ℕ) (k' : ℕ)
+  on : (g : Format B) (bits : List ℕ) (k v : ℕ) (rest : List ℕ) (k' : ℕ)
       → got v rest k' ≡ read_as (first_of g) bits k → read_as (next g v) rest k' ≡ read_as g bits k
   on (gives b) bits k v rest k' e =
       let q : rest ≡ bits = cc in
@@ -58,6 +60,21 @@ module _ {B : Type 0} where
   on (field w wrong n f) bits k v rest k' e = on_field w wrong n f bits k v rest k' (field_in bits w) e
 
   -- a field failed, and reading ends there
-  pub stop : (g : Format B) (bits : List ℕ) (k : ℕ) (d : Fault) → fails d ≡ read_as (first_of g) bits k → fails d ≡ read_as g bits k
+  stop : (g : Format B) (bits : List ℕ) (k : ℕ) (d : Fault) → fails d ≡ read_as (first_of g) bits k → fails d ≡ read_as g bits k
   stop (gives b) bits k d e = not_got d 0 bits k (got b bits k) e
   stop (field w wrong n f) bits k d e = stop_field w wrong n f bits k d (field_in bits w) e
+
+  -- fields of f were read from old, and g is what is left to read, from some bits at a place
+  pub record ReadTo (f : Format B) (old : Rest) (g : Format B) (bits : List ℕ) (place : ℕ) : Type 0 where
+    pub same : read_as g bits place ≡ read_as f old.bits old.place
+
+  pub at_front : (f : Format B) (old : Rest) → ReadTo f old f old.bits old.place
+  at_front f old = record { same = refl }
+
+  module _ {f : Format B} {old : Rest} {g : Format B} {bits : List ℕ} {place : ℕ} (so_far : ReadTo f old g bits place) where
+    -- one field more, written infix
+    pub ◌▸◌ : {v : ℕ} {bits' : List ℕ} {place' : ℕ} → got v bits' place' ≡ read_as (first_of g) bits place → ReadTo f old (next g v) bits' place'
+    ◌▸◌ {v} {bits'} {place'} e = record { same = on g bits place v bits' place' e ∙ so_far.same }
+
+    pub field_fails : {d : Fault} → fails d ≡ read_as (first_of g) bits place → fails d ≡ read_as f old.bits old.place
+    field_fails {d} e = stop g bits place d e ∙ so_far.same

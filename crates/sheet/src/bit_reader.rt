@@ -63,7 +63,6 @@ impl<'a> BitReader<'a> {
     }
 
     // The number in the next field of a width, which stays to be read.
-    #[tactic(auto, using(crate::proofs::Fields::field_more, crate::proofs::Fields::pow_more))]
     fn field(&self, width: usize) -> u64
         requires within { width ≤ length self.now.bits }
         requires narrow { width ≤ 64 }
