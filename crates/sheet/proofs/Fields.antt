@@ -12,11 +12,3 @@ length_left bytes at = length-drop at (bits_of bytes) ∙ omega (arith, length_b
 pub bit_left : (bytes : List ℕ) (at i : ℕ) → at + i < 8 * length bytes
     → get_or bytes ((at + i) / 8) 0 / 2 ^ (7 - (at + i) % 8) % 2 ≡ get_or (drop at (bits_of bytes)) i 0
 bit_left bytes at i h = bit_at bytes (at + i) h ∙ sym (get_or-drop at (bits_of bytes) i 0)
-
--- one bit more of a field
-pub field_more : (bits : List ℕ) (i value bit : ℕ) → i < length bits → value ≡ number_from_digits 2 (take i bits) → bit ≡ get_or bits i 0
-    → value * 2 + bit ≡ number_from_digits 2 (take (i + 1) bits)
-field_more bits i value bit h p q = omega (arith, number_more 2 bits i h)
-
-pub pow_more : (i value bit : ℕ) → value < 2 ^ i → bit < 2 → value * 2 + bit < 2 ^ (i + 1)
-pow_more i value bit h k = rw (add-one, pow-suc) (omega arith)

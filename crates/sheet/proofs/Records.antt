@@ -9,19 +9,10 @@ use Rattle.sheet.specs.Rest.{Rest, behind}
 one_more : (count i : ℕ) → i < count → count - i ≡ suc (count - (i + 1))
 one_more count i h = omega arith
 
--- a channel more: its field was cut short, or read
-module _ (count i : ℕ) (h : i < count) (cs : List ℕ) (old : Rest) where
-  pub channel_cut : None ≡ field_in old.bits 7 → fails (fault_at 20 old.place) ≡ read_as (channels_format (count - i) cs) old.bits old.place
-  channel_cut e =
-      ap (λ (o : Option ℕ). field_or o old.place (λ v. read_as (channels_format (count - (i + 1)) (cs ++ (v ∷ []))) (drop 7 old.bits) (old.place + 7))) e
-      ∙ ap (λ (n : ℕ). read_as (channels_format n cs) old.bits old.place) (sym (one_more count i h))
-
-  pub channel_read : (v : ℕ) (new : Rest) → Some v ≡ field_in old.bits 7 → new ≡ behind 7 old
-      → read_as (channels_format (count - (i + 1)) (cs ++ (v ∷ []))) new.bits new.place ≡ read_as (channels_format (count - i) cs) old.bits old.place
-  channel_read v new e m =
-      ap (λ (r : Rest). read_as (channels_format (count - (i + 1)) (cs ++ (v ∷ []))) r.bits r.place) m
-      ∙ (ap (λ (o : Option ℕ). field_or o old.place (λ x. read_as (channels_format (count - (i + 1)) (cs ++ (x ∷ []))) (drop 7 old.bits) (old.place + 7))) e
-      ∙ ap (λ (n : ℕ). read_as (channels_format n cs) old.bits old.place) (sym (one_more count i h)))
+-- a channel more
+pub channel_read : (count i : ℕ) (cs : List ℕ) (old new : Rest) (v : ℕ) → i < count → Some v ≡ field_in old.bits 7 → new ≡ behind 7 old
+    → read_as (channels_format (count - (i + 1)) (cs ++ (v ∷ []))) new.bits new.place ≡ read_as (channels_format (count - i) cs) old.bits old.place
+channel_read count i cs old new v h e m = rw (m, one_more count i h, ← e) refl
 
 -- what a format gives, taken further
 abbrev pub map_read : {A B : Type 0} → (A → B) → Read A → Read B
@@ -47,21 +38,12 @@ read_mapped {A} {B} g (field w wrong n f) bits k = by_field (λ v. read_mapped g
 pub picture_read : (a b d : Rest) (p count : ℕ) → Some p ≡ field_in a.bits 5 → b ≡ behind 5 a → Some count ≡ field_in b.bits 3 → d ≡ behind 3 b
     → (r : Read (List ℕ)) → r ≡ read_as (channels_format count []) d.bits d.place → map_read (picture p) r ≡ read_as picture_format a.bits a.place
 picture_read a b d p count e m f n r q =
-    ap (map_read (picture p)) q
-    ∙ (read_mapped (picture p) (channels_format count []) d.bits d.place
-    ∙ (ap (λ (x : Rest). read_as (mapped (picture p) (channels_format count [])) x.bits x.place) n
-    ∙ (ap (λ (o : Option ℕ). field_or o b.place (λ n. read_as (mapped (picture p) (channels_format n [])) (drop 3 b.bits) (b.place + 3))) f
-    ∙ (ap (λ (x : Rest). read_as (counted p) x.bits x.place) m
-    ∙ ap (λ (o : Option ℕ). field_or o a.place (λ x. read_as (counted x) (drop 5 a.bits) (a.place + 5))) e))))
-  where
-    counted : ℕ → Format Entry
-    counted x = any 3 (λ n. mapped (picture x) (channels_format n []))
+    let f' : Some count ≡ field_in (drop 5 a.bits) 3 = rw m at f in
+    rw (q, n, m, ← e, ← f') (read_mapped (picture p) (channels_format count []) (drop 3 (drop 5 a.bits)) (a.place + 5 + 3))
 
 -- a picture behind its code
 pub picture_entry : (a b : Rest) (code : ℕ) → Some code ≡ field_in a.bits 3 → b ≡ behind 3 a → code ≡ 2
     → (r : Read Entry) → r ≡ read_as picture_format b.bits b.place → map_read Some r ≡ read_as entry_format a.bits a.place
 picture_entry a b code e m two r q =
-    ap (map_read Some) q
-    ∙ (read_mapped Some picture_format b.bits b.place
-    ∙ (ap (λ (x : Rest). read_as (mapped Some picture_format) x.bits x.place) m
-    ∙ ap (λ (o : Option ℕ). field_or o a.place (λ v. cond (outside 0 5 v) (fails (fault_at 22 a.place)) (read_as (body_format v) (drop 3 a.bits) (a.place + 3)))) (ap Some (sym two) ∙ e)))
+    let e' : Some 2 ≡ field_in a.bits 3 = rw two at e in
+    rw (q, m, ← e') (read_mapped Some picture_format (drop 3 a.bits) (a.place + 3))

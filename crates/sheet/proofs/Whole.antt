@@ -28,7 +28,7 @@ short_header bytes h rest k r s =
 -- a turn of the reader: the records so far lead from the first rest to the rest that is read on
 module _ (first rest : Rest) (rs : List Record) (so_far : Leads first.bits first.place (map record_told rs) rest.bits rest.place) (u : AllBelowBase 2 first.bits) where
   under_led : AllBelowBase 2 rest.bits
-  under_led = under_rest (packed_entries (map record_told rs)) rest.bits (subst (λ (xs : List ℕ). AllBelowBase 2 xs) so_far.packs u)
+  under_led = under_rest (packed_entries (map record_told rs)) rest.bits (rw so_far.packs at u)
 
   pub fault_ends : (f : Fault) → fails f ≡ read_as entry_format rest.bits rest.place → Ends first.bits first.place (map record_told rs) (Some f)
   fault_ends f r = leads_fails first.bits first.place (map record_told rs) rest.bits rest.place so_far under_led f r
@@ -45,8 +45,7 @@ module _ (first rest : Rest) (rs : List Record) (so_far : Leads first.bits first
     led_on = leads_more first.bits first.place (map record_told rs) rest.bits rest.place so_far under_led (record_told x) after.bits after.place r
 
     pub record_leads : (rs' : List Record) → rs' ≡ rs ++ (x ∷ []) → Leads first.bits first.place (map record_told rs') after.bits after.place
-    record_leads rs' e =
-        subst (λ (es : List Entry). Leads first.bits first.place es after.bits after.place) (sym (ap (map record_told) e ∙ map_push record_told rs x)) led_on
+    record_leads rs' e = rw (e, map_push record_told rs x) led_on
 
     -- with one record more there are at most 65,536
     pub record_fits : length first.bits ≤ most_bits → length rs < 65536
@@ -59,10 +58,9 @@ module _ (first rest : Rest) (rs : List Record) (so_far : Leads first.bits first
         )
 
 module _ (bytes : List ℕ) where
-  pub sheet_too_long : 65536 < length bytes → (c : Contents) → c ≡ nothing_but (fault_at 24 0) → ReadRight (bits_of bytes) c
-  sheet_too_long h c e =
-      subst (λ (x : Contents). ReadRight (bits_of bytes) x) (sym e)
-      (read_right (bits_of bytes) (nothing_but (fault_at 24 0)) (under_bits bytes) (too_long (omega (arith, length_bits bytes))))
+  pub sheet_too_long : 65536 < length bytes → ReadRight (bits_of bytes) (nothing_but (fault_at 24 0))
+  sheet_too_long h =
+      read_right (bits_of bytes) (nothing_but (fault_at 24 0)) (under_bits bytes) (too_long (omega (arith, length_bits bytes)))
 
   module _ (s : length bytes ≤ 65536) where
     pub sheet_headed : (h : Header) (rest : List ℕ) (k : ℕ) (es : List Entry) (f : Option Fault)
@@ -71,8 +69,7 @@ module _ (bytes : List ℕ) where
         read_right (bits_of bytes) (read_to h es f) (under_bits bytes)
         (header_says (bits_of bytes) h rest k es f (under_bits bytes) (omega (arith, length_bits bytes)) r d)
 
-    pub sheet_headless : (f : Fault) → fails f ≡ read_as header_format (bits_of bytes) 0 → (c : Contents) → c ≡ nothing_but f → ReadRight (bits_of bytes) c
-    sheet_headless f r c e =
-        subst (λ (x : Contents). ReadRight (bits_of bytes) x) (sym e)
-        (read_right (bits_of bytes) (nothing_but f) (under_bits bytes)
-        (header_says_fault (bits_of bytes) f (under_bits bytes) (omega (arith, length_bits bytes)) r))
+    pub sheet_headless : (f : Fault) → fails f ≡ read_as header_format (bits_of bytes) 0 → ReadRight (bits_of bytes) (nothing_but f)
+    sheet_headless f r =
+        read_right (bits_of bytes) (nothing_but f) (under_bits bytes)
+        (header_says_fault (bits_of bytes) f (under_bits bytes) (omega (arith, length_bits bytes)) r)

@@ -1,24 +1,25 @@
 //! Sheets in plain words, as people read them.
 use crate::words::{Fault, Header, Kind, Layer, Record};
+use plan::check::Plan;
 use std::fmt;
 
 impl fmt::Display for Kind {
     fn fmt<W: fmt::Write>(&self, f: &mut fmt::Formatter<W>) -> fmt::Result {
-        match self {
-            Kind::Tally => f.write_str("tally"),
-            Kind::Capture => f.write_str("capture"),
-        }
+        f.write_str(match self {
+            Kind::Tally => "tally",
+            Kind::Capture => "capture",
+        })
     }
 }
 
 impl fmt::Display for Header {
     fn fmt<W: fmt::Write>(&self, f: &mut fmt::Formatter<W>) -> fmt::Result {
-        let kind = self.kind;
-        let shelf = self.shelf;
-        let plan = self.plan;
-        let parties = plan.parties;
-        let links = plan.links;
-        let channels = plan.channels;
+        let Header { kind, shelf, plan } = self;
+        let Plan {
+            parties,
+            links,
+            channels,
+        } = plan;
         write!(
             f,
             "sheet kind {kind} shelf {shelf} parties {parties} links {links} channels {channels}"
@@ -58,19 +59,22 @@ impl fmt::Display for Record {
 
 impl fmt::Display for Layer {
     fn fmt<W: fmt::Write>(&self, f: &mut fmt::Formatter<W>) -> fmt::Result {
-        match self {
-            Layer::Plan => f.write_str("plan"),
-            Layer::Sheet => f.write_str("sheet"),
-            Layer::Runner => f.write_str("runner"),
-        }
+        f.write_str(match self {
+            Layer::Plan => "plan",
+            Layer::Sheet => "sheet",
+            Layer::Runner => "runner",
+        })
     }
 }
 
 impl fmt::Display for Fault {
     fn fmt<W: fmt::Write>(&self, f: &mut fmt::Formatter<W>) -> fmt::Result {
-        let number = self.refusal.number();
-        let place = self.place;
-        let layer = self.layer;
+        let Fault {
+            refusal,
+            layer,
+            place,
+        } = self;
+        let number = refusal.number();
         write!(f, "fault {number} at {place} ({layer})")
     }
 }

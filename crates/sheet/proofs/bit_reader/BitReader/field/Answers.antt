@@ -1,9 +1,9 @@
-use Rattle.std.proofs.Common.{arith}
-use Rattle.sheet.proofs.Fields.{field_more, pow_more}
+use Rattle.std.proofs.Common.{pow-suc, add-one, arith}
+use Rattle.std.proofs.lemmas.Int.Digits.{number_more}
 use Rattle.sheet.proofs.bit_reader.BitReader.field.Goals as goal
 
 pub loop-i-preserved : goal.loop-i-preserved
 loop-i-preserved c = record {
-  number = field_more c.args.self.now.bits c.loop-i.i _ _ (omega arith) c.loop-i.invariant.number c.bit.ensures.is;
-  small = pow_more _ _ _ c.loop-i.invariant.small c.bit.ensures.small;
+  number = omega (arith, number_more 2 c.args.self.now.bits c.loop-i.i (omega arith));
+  small = rw (add-one, pow-suc) (omega arith);
 }
