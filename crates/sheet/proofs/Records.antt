@@ -1,8 +1,8 @@
 -- Records: a picture's channels one by one, and what follows each code.
-use Rattle.std.proofs.Common.{◌≡◌, ℕ, suc, ◌+◌, ◌-◌, ◌<◌, Bool, true, false, cond, List, [], ◌∷◌, ◌++◌, drop, Some, None, Option, sym, refl, ap, ◌∙◌, arith}
+use Rattle.std.proofs.Common.{◌≡◌, ℕ, suc, ◌+◌, ◌-◌, ◌<◌, Bool, true, false, cond, List, [], ◌∷◌, ◌++◌, drop, Some, None, Option, refl, arith}
 use Rattle.sheet_rules.specs.Bits.{field_in}
 use Rattle.sheet_rules.specs.Contents.{Entry, picture, fault_at}
-use Rattle.sheet_rules.specs.Formats.{Format, gives, field, Read, got, fails, field_or, read_as, any, outside, mapped, channels_format, picture_format, body_format, entry_format}
+use Rattle.sheet_rules.specs.Formats.{Format, gives, field, Read, got, fails, field_or, read_as, mapped, channels_format, picture_format, entry_format}
 use Rattle.sheet.specs.Rest.{Rest, behind}
 
 -- the reading of n channels with one still to come

@@ -1,9 +1,9 @@
 -- A whole sheet: from the bytes to what they say.
-use Rattle.std.proofs.Common.{◌≡◌, ℕ, ◌<◌, ◌≤◌, List, [], ◌∷◌, ◌++◌, cond, map, length, Some, None, Option, sym, ap, ◌∙◌, subst, arith}
+use Rattle.std.proofs.Common.{◌≡◌, ℕ, ◌<◌, ◌≤◌, List, [], ◌∷◌, ◌++◌, cond, map, length, Some, None, Option, sym, arith}
 use Rattle.std.specs.Int.Digits.{AllBelowBase}
 use Rattle.std.proofs.lemmas.List.{map_push, length_push, length-map}
 use Rattle.sheet_rules.specs.Bits.{bits_of}
-use Rattle.sheet_rules.specs.Contents.{Header, Entry, Fault, fault_at, Contents, nothing_but, read_to}
+use Rattle.sheet_rules.specs.Contents.{Header, Entry, Fault, fault_at, nothing_but, read_to}
 use Rattle.sheet_rules.specs.Formats.{got, fails, read_as, header_format, entry_format, only_fill}
 use Rattle.sheet_rules.specs.Sheets.{packed_entries, most_bits, Ends, too_long, ReadRight}
 use Rattle.sheet_rules.proofs.Bytes.{length_bits, under_bits}

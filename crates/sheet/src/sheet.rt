@@ -46,6 +46,17 @@ fn read_records(
     }
 }
 
+// The summary of a sheet whose header is not whole.
+fn nothing_but(fault: Fault) -> Summary
+    ensures header { result.header ≡ None }
+    ensures fault { result.fault ≡ Some fault }
+{
+    Summary {
+        header: None,
+        fault: Some(fault),
+    }
+}
+
 /// Reads a run sheet: answers its header and its fault, and leaves its records in `records`, in order, up to the end
 /// or to the first field that fails. A sheet is accepted, with no fault, exactly if its bits are the packed header,
 /// the packed records, the end code and zero bits to fill the byte. If `records` has room for 65,536 of them, the
@@ -56,24 +67,16 @@ pub fn read_sheet(bytes: &[u8], records: &mut Vec<Record>) -> Result<Summary, Al
 {
     records.clear();
     if bytes.len() > MOST_BYTES {
-        let fault = Fault::at(Refusal::SheetTooLong, 0);
-        return Ok(Summary {
-            header: None,
-            fault: Some(fault),
-        });
+        return Ok(nothing_but(Fault::at(Refusal::SheetTooLong, 0)));
     }
     let mut bits = BitReader::new(bytes);
-    match read_header(&mut bits) {
-        Ok(header) => {
-            let fault = read_records(&mut bits, records)?;
-            Ok(Summary {
-                header: Some(header),
-                fault,
-            })
-        }
-        Err(fault) => Ok(Summary {
-            header: None,
-            fault: Some(fault),
-        }),
-    }
+    let header = match read_header(&mut bits) {
+        Ok(header) => header,
+        Err(fault) => return Ok(nothing_but(fault)),
+    };
+    let fault = read_records(&mut bits, records)?;
+    Ok(Summary {
+        header: Some(header),
+        fault,
+    })
 }

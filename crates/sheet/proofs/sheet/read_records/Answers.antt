@@ -1,8 +1,4 @@
-use Rattle.std.proofs.Common.{Option, sym, ap, subst, arith, vec_items, map}
-use Rattle.std.proofs.lemmas.Result.{err_from_is_err_and}
-use Rattle.sheet_rules.specs.Contents.{Fault}
-use Rattle.sheet_rules.specs.Sheets.{Ends}
-use Rattle.sheet.specs.Told.{record_told, fault_told}
+use Rattle.std.proofs.Common.{arith, vec_items}
 use Rattle.sheet.proofs.Whole.{fault_ends, end_ends, record_shortens, record_leads, record_fits}
 use Rattle.sheet.proofs.sheet.read_records.Goals as goal
 

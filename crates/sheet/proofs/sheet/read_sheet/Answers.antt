@@ -5,7 +5,7 @@ use Rattle.sheet.proofs.sheet.read_sheet.Goals as goal
 
 pub returns-then-bytes-gt-MOST_BYTES-clause-said : goal.returns-then-bytes-gt-MOST_BYTES-clause-said
 returns-then-bytes-gt-MOST_BYTES-clause-said c =
-    rw (c.clear.ensures.items, c.at-fault.ensures) (sheet_too_long c.args.bytes.now c.if-bytes-gt-MOST_BYTES.true)
+    rw (c.clear.ensures.items, c.nothing_but.ensures.header, c.nothing_but.ensures.fault, c.at.ensures) (sheet_too_long c.args.bytes.now c.if-bytes-gt-MOST_BYTES.true)
 
 pub read_records-requires-clause-binary : goal.read_records-requires-clause-binary
 read_records-requires-clause-binary c =
@@ -16,14 +16,14 @@ read_records-requires-clause-short c =
     short_header c.args.bytes.now (header_told c.in-Ok.header) _ _ (rw (c.new-bits.ensures.bits, c.new-bits.ensures.place) at c.in-Ok.ensures)
     c.if-bytes-gt-MOST_BYTES.false
 
-pub returns-in_ok-fault-in-Ok-clause-said : goal.returns-in_ok-fault-in-Ok-clause-said
-returns-in_ok-fault-in-Ok-clause-said c =
+pub returns-clause-said : goal.returns-clause-said
+returns-clause-said c =
     sheet_headed c.args.bytes.now c.if-bytes-gt-MOST_BYTES.false (header_told c.in-Ok.header) _ _
-    (map record_told (vec_items c.read_records.new.records)) (option_told fault_told c.in_ok-fault-in-Ok.fault)
-    (rw (c.new-bits.ensures.bits, c.new-bits.ensures.place) at c.in-Ok.ensures) c.in_ok-fault-in-Ok.ensures.said
+    (map record_told (vec_items c.read_records.new.records)) (option_told fault_told c.in_ok-fault.fault)
+    (rw (c.new-bits.ensures.bits, c.new-bits.ensures.place) at c.in-Ok.ensures) c.in_ok-fault.ensures.said
 
 pub returns-in-Err-clause-said : goal.returns-in-Err-clause-said
 returns-in-Err-clause-said c =
-    rw c.clear.ensures.items
+    rw (c.clear.ensures.items, c.nothing_but-in-Err.ensures.header, c.nothing_but-in-Err.ensures.fault)
     (sheet_headless c.args.bytes.now c.if-bytes-gt-MOST_BYTES.false (fault_told c.in-Err.fault)
     (rw (c.new-bits.ensures.bits, c.new-bits.ensures.place) at c.in-Err.ensures))
