@@ -10,7 +10,6 @@ use Rattle.sheet_rules.proofs.Bytes.{length_bits, under_bits}
 use Rattle.sheet_rules.proofs.Reading.{read_got, read_place, read_under}
 use Rattle.sheet_rules.proofs.Following.{Leads, leads_few, leads_more, fewer_left, leads_fails, leads_end, header_says, header_says_fault}
 use Rattle.sheet_rules.proofs.Meaning.{read_right, under_rest}
-use Rattle.sheet.specs.Rest.{Rest}
 use Rattle.sheet.specs.Told.{record_told}
 use Rattle.sheet.specs.declared.words.Record.{Record}
 
@@ -25,34 +24,34 @@ pub short_header : (bytes : List ℕ) (h : Header) (rest : List ℕ) (k : ℕ) �
 short_header bytes h rest k r s =
     omega (arith, read_place header_format (bits_of bytes) 0 h rest k (under_bits bytes) (sym r), length_bits bytes)
 
--- a turn of the reader: the records so far lead from the first rest to the rest that is read on
-module _ (first rest : Rest) (rs : List Record) (so_far : Leads first.bits first.place (map record_told rs) rest.bits rest.place) (u : AllBelowBase 2 first.bits) where
-  under_led : AllBelowBase 2 rest.bits
-  under_led = under_rest (packed_entries (map record_told rs)) rest.bits (rw so_far.packs at u)
+-- a turn of the reader: the records so far lead from the bits at the start to those that are read on
+module _ {bits : List ℕ} {k : ℕ} (rs : List Record) {rest : List ℕ} {k' : ℕ} (so_far : Leads bits k (map record_told rs) rest k') (u : AllBelowBase 2 bits) where
+  under_led : AllBelowBase 2 rest
+  under_led = under_rest (packed_entries (map record_told rs)) rest (rw so_far.packs at u)
 
-  pub fault_ends : (f : Fault) → fails f ≡ read_as entry_format rest.bits rest.place → Ends first.bits first.place (map record_told rs) (Some f)
-  fault_ends f r = leads_fails first.bits first.place (map record_told rs) rest.bits rest.place so_far under_led f r
+  pub fault_ends : {f : Fault} → fails f ≡ read_as entry_format rest k' → Ends bits k (map record_told rs) (Some f)
+  fault_ends {f} r = leads_fails bits k (map record_told rs) rest k' so_far under_led f r
 
-  pub end_ends : (after : Rest) → got None after.bits after.place ≡ read_as entry_format rest.bits rest.place
-      → Ends first.bits first.place (map record_told rs) (cond (only_fill after.bits) None (Some (fault_at 23 after.place)))
-  end_ends after r = leads_end first.bits first.place (map record_told rs) rest.bits rest.place so_far under_led after.bits after.place r
+  pub end_ends : {rest' : List ℕ} {k'' : ℕ} → got None rest' k'' ≡ read_as entry_format rest k'
+      → Ends bits k (map record_told rs) (cond (only_fill rest') None (Some (fault_at 23 k'')))
+  end_ends {rest'} {k''} r = leads_end bits k (map record_told rs) rest k' so_far under_led rest' k'' r
 
-  module _ (x : Record) (after : Rest) (r : got (Some (record_told x)) after.bits after.place ≡ read_as entry_format rest.bits rest.place) where
-    pub record_shortens : length after.bits < length rest.bits
-    record_shortens = fewer_left first.bits first.place (map record_told rs) rest.bits rest.place so_far under_led (record_told x) after.bits after.place r
+  module _ (x : Record) {rest' : List ℕ} {k'' : ℕ} (r : got (Some (record_told x)) rest' k'' ≡ read_as entry_format rest k') where
+    pub record_shortens : length rest' < length rest
+    record_shortens = fewer_left bits k (map record_told rs) rest k' so_far under_led (record_told x) rest' k'' r
 
-    led_on : Leads first.bits first.place (map record_told rs ++ (record_told x ∷ [])) after.bits after.place
-    led_on = leads_more first.bits first.place (map record_told rs) rest.bits rest.place so_far under_led (record_told x) after.bits after.place r
+    led_on : Leads bits k (map record_told rs ++ (record_told x ∷ [])) rest' k''
+    led_on = leads_more bits k (map record_told rs) rest k' so_far under_led (record_told x) rest' k'' r
 
-    pub record_leads : (rs' : List Record) → rs' ≡ rs ++ (x ∷ []) → Leads first.bits first.place (map record_told rs') after.bits after.place
+    pub record_leads : (rs' : List Record) → rs' ≡ rs ++ (x ∷ []) → Leads bits k (map record_told rs') rest' k''
     record_leads rs' e = rw (e, map_push record_told rs x) led_on
 
     -- with one record more there are at most 65,536
-    pub record_fits : length first.bits ≤ most_bits → length rs < 65536
+    pub record_fits : length bits ≤ most_bits → length rs < 65536
     record_fits s =
         omega (
           arith,
-          leads_few first.bits first.place (map record_told rs ++ (record_told x ∷ [])) after.bits after.place led_on,
+          leads_few bits k (map record_told rs ++ (record_told x ∷ [])) rest' k'' led_on,
           length_push (map record_told rs) (record_told x),
           length-map rs record_told,
         )

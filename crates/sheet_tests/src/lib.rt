@@ -545,6 +545,7 @@ mod tests {
         },
     ];
 
+    // What a sheet comes to, and its records.
     fn read(rt: &HostRuntime, bytes: &[u8]) -> Result<(Summary, Vec<Record>), Fail> {
         let mut records = Vec::new(rt.alloc());
         let summary = read_sheet(bytes, &mut records)?;
@@ -574,6 +575,7 @@ mod tests {
         "look party 31 link 7",
     ];
 
+    // Whether a value is shown as this line.
     fn check_text<T: Display>(
         rt: &(impl Abort + AllocGlobal),
         shown: &T,
