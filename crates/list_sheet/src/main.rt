@@ -10,7 +10,7 @@ use std::io::Read;
 const MOST_RECORDS: usize = 65_536;
 
 // The header, a numbered line for each record, and how the reading ended.
-fn print_contents(rt: &HostRuntime, summary: Summary, records: &[Record]) -> io::Result<()> {
+fn print_contents(rt: &impl Print, summary: Summary, records: &[Record]) -> io::Result<()> {
     if let Some(header) = summary.header {
         println!(rt; "{header}")?;
     }

@@ -1,11 +1,12 @@
 -- What the reader's answers tell, in the words of the law of sheets.
-use Rattle.std.specs.Prelude.{ℕ, Bool, List, map, Some, None, Ok, Err, Option, Result}
+use Rattle.std.specs.Prelude.{◌≡◌, ℕ, Bool, List, map, Some, None, Ok, Err, Option, Result}
+use Rattle.arrayvec.specs.ArrayVec.{ArrayVec}
 use Rattle.plan.specs.Refusals.{refusal_number}
 use Rattle.plan.specs.declared.check.ShelfType.{ShelfType}
 use Rattle.plan.specs.declared.check.ShelfType.TheVariants.{Flag, Block}
 use Rattle.sheet_rules.specs.Contents as S
-use Rattle.sheet_rules.specs.Formats.{Format, gives, field, Read, got, fails}
-use Rattle.sheet.specs.Left.{channels_of}
+use Rattle.sheet_rules.specs.Formats.{Format, gives, field, Read, got, fails, read_as}
+use Rattle.sheet.specs.Rest.{Rest}
 use Rattle.sheet.specs.declared.words.Kind.{Kind}
 use Rattle.sheet.specs.declared.words.Kind.TheVariants.{Tally, Capture}
 use Rattle.sheet.specs.declared.words.Header.{Header}
@@ -33,6 +34,10 @@ header_told h = record {
   links = h.plan.links;
   channels = h.plan.channels;
 }
+
+-- the channels that a picture lists, in order
+abbrev pub channels_of : ArrayVec ℕ → List ℕ
+channels_of l = l.items
 
 abbrev pub record_told : Record → S.Entry
 record_told (Amendment p c w) = S.amendment p c w
@@ -62,6 +67,10 @@ contents_told c rs = record { header = option_told header_told c.header; entries
 abbrev pub read_told : {A B : Type 0} → (A → B) → Result A Fault → List ℕ → ℕ → Read B
 read_told t (Ok a) rest k = got (t a) rest k
 read_told t (Err f) rest k = fails (fault_told f)
+
+-- a step of the reader returned what a format reads there, and moved the reader behind it
+abbrev pub Reads : {A B : Type 0} → (A → B) → Format B → Result A Fault → Rest → Rest → Type 0
+Reads t format result old new = read_told t result new.bits new.place ≡ read_as format old.bits old.place
 
 -- one field alone
 abbrev pub one : ℕ → (ℕ → Bool) → ℕ → Format ℕ

@@ -1,8 +1,7 @@
-ghost use Rattle.std.specs.Prelude.{◌≡◌, ℕ, ◌<◌, ◌≤◌};
+ghost use Rattle.std.specs.Prelude.{◌≡◌, ℕ, ◌<◌, ◌≤◌, [], ◌∷◌, map};
 ghost use Rattle.plan.specs.Refusals.{refusal_number};
-ghost use Rattle.sheet_rules.specs.Formats.{read_as, outside, header_format};
-ghost use Rattle.sheet.specs.Left.{left};
-ghost use Rattle.sheet.specs.Told.{kind_number, shelf_number, header_told, read_told, one};
+ghost use Rattle.sheet_rules.specs.Formats.{outside, header_format};
+ghost use Rattle.sheet.specs.Told.{header_told, Reads, one};
 
 use crate::bit_reader::BitReader;
 use crate::words::{Fault, Header, Kind};
@@ -12,7 +11,7 @@ use plan::refusal::Refusal;
 // A field that has just one right value: the version and the spare bit.
 fn read_fixed(bits: &mut BitReader, width: usize, right: u64) -> Result<(), Fault>
     requires { width ≤ 64 }
-    ensures { read_told (λ _. right) result (left bits.new) bits.new.at ≡ read_as (one width (outside right right) 21) (left bits.old) bits.old.at }
+    ensures { Reads (λ _. right) (one width (outside right right) 21) result bits.old bits.new }
 {
     let place = bits.place();
     let Some(value) = bits.take(width) else {
@@ -24,31 +23,17 @@ fn read_fixed(bits: &mut BitReader, width: usize, right: u64) -> Result<(), Faul
     Ok(())
 }
 
-fn read_kind(bits: &mut BitReader) -> Result<Kind, Fault>
-    ensures { read_told kind_number result (left bits.new) bits.new.at ≡ read_as (one 2 (outside 0 1) 21) (left bits.old) bits.old.at }
+// A field in which only 0 and 1 are right, and the choices that they stand for: the kind and the shelf.
+fn read_choice<T: Copy>(bits: &mut BitReader, choices: [T; 2]) -> Result<T, Fault>
+    ensures { (number : T → ℕ) → map number choices ≡ 0 ∷ 1 ∷ [] → Reads number (one 2 (outside 0 1) 21) result bits.old bits.new }
 {
     let place = bits.place();
-    let Some(kind) = bits.take(2) else {
+    let Some(value) = bits.take(2) else {
         return Err(Fault::at(Refusal::SheetEndsEarly, place));
     };
-    match kind {
-        0 => Ok(Kind::Tally),
-        1 => Ok(Kind::Capture),
-        _ => Err(Fault::at(Refusal::WrongHeader, place)),
-    }
-}
-
-fn read_shelf(bits: &mut BitReader) -> Result<ShelfType, Fault>
-    ensures { read_told shelf_number result (left bits.new) bits.new.at ≡ read_as (one 2 (outside 0 1) 21) (left bits.old) bits.old.at }
-{
-    let place = bits.place();
-    let Some(shelf) = bits.take(2) else {
-        return Err(Fault::at(Refusal::SheetEndsEarly, place));
-    };
-    match shelf {
-        0 => Ok(ShelfType::Flag),
-        1 => Ok(ShelfType::Block),
-        _ => Err(Fault::at(Refusal::WrongHeader, place)),
+    match choices.get(value as usize) {
+        Some(choice) => Ok(*choice),
+        None => Err(Fault::at(Refusal::WrongHeader, place)),
     }
 }
 
@@ -56,7 +41,7 @@ fn read_shelf(bits: &mut BitReader) -> Result<ShelfType, Fault>
 fn read_size(bits: &mut BitReader, width: usize, most: u64, refusal: Refusal) -> Result<u8, Fault>
     requires narrow { width ≤ 64 }
     requires byte { most < 256 }
-    ensures { read_told (λ v. v) result (left bits.new) bits.new.at ≡ read_as (one width (outside 1 most) (refusal_number refusal)) (left bits.old) bits.old.at }
+    ensures { Reads (λ v. v) (one width (outside 1 most) (refusal_number refusal)) result bits.old bits.new }
 {
     let place = bits.place();
     let Some(size) = bits.take(width) else {
@@ -71,11 +56,11 @@ fn read_size(bits: &mut BitReader, width: usize, most: u64, refusal: Refusal) ->
 
 // The header, field by field.
 pub(crate) fn read_header(bits: &mut BitReader) -> Result<Header, Fault>
-    ensures { read_told header_told result (left bits.new) bits.new.at ≡ read_as header_format (left bits.old) bits.old.at }
+    ensures { Reads header_told header_format result bits.old bits.new }
 {
     read_fixed(bits, 4, 1)?;
-    let kind = read_kind(bits)?;
-    let shelf = read_shelf(bits)?;
+    let kind = read_choice(bits, [Kind::Tally, Kind::Capture])?;
+    let shelf = read_choice(bits, [ShelfType::Flag, ShelfType::Block])?;
     let parties = read_size(bits, 5, 24, Refusal::PartiesOutOfRange)?;
     let links = read_size(bits, 3, 4, Refusal::LinksOutOfRange)?;
     let channels = read_size(bits, 7, 64, Refusal::ChannelsOutOfRange)?;

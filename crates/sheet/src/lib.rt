@@ -2,9 +2,6 @@
 #![tactic(auto)]
 
 mod bit_reader;
-mod bits;
-pub mod channel_list;
-mod channels;
 mod header;
 mod record;
 pub mod sheet;

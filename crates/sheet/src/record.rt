@@ -1,15 +1,14 @@
-ghost use Rattle.std.specs.Prelude.{◌≡◌, ℕ, ◌<◌, ◌≤◌, []};
-ghost use Rattle.sheet_rules.specs.Formats.{read_as, channels_format, amendment_format, picture_format, turn_format, release_format, look_format, entry_format};
-ghost use Rattle.sheet.specs.Left.{left, channels_of};
-ghost use Rattle.sheet.specs.Told.{record_told, option_told, read_told};
+ghost use Rattle.std.specs.Prelude.{◌<◌, []};
+ghost use Rattle.sheet_rules.specs.Formats.{channels_format, amendment_format, picture_format, turn_format, release_format, look_format, entry_format};
+ghost use Rattle.sheet.specs.Told.{channels_of, record_told, option_told, Reads};
 
 use crate::bit_reader::BitReader;
-use crate::channel_list::ChannelList;
-use crate::words::{Fault, Record};
+use crate::words::{ChannelList, Fault, Record};
+use arrayvec::ArrayVec;
 use plan::refusal::Refusal;
 
 fn read_amendment(bits: &mut BitReader) -> Result<Record, Fault>
-    ensures { read_told record_told result (left bits.new) bits.new.at ≡ read_as amendment_format (left bits.old) bits.old.at }
+    ensures { Reads record_told amendment_format result bits.old bits.new }
 {
     let Some(party) = bits.take(5) else {
         return Err(Fault::at(Refusal::SheetEndsEarly, bits.place()));
@@ -28,25 +27,23 @@ fn read_amendment(bits: &mut BitReader) -> Result<Record, Fault>
 }
 
 // As many channels as were counted.
+#[tactic(auto, using(crate::proofs::Records::channel_read))]
 fn read_channels(bits: &mut BitReader, count: usize) -> Result<ChannelList, Fault>
     requires { count < 8 }
-    ensures { read_told channels_of result (left bits.new) bits.new.at ≡ read_as (channels_format count []) (left bits.old) bits.old.at }
+    ensures { Reads channels_of (channels_format count []) result bits.old bits.new }
 {
-    let mut channels = [0u8; 7];
-    for i in 0..count {
+    let mut channels = ArrayVec::new();
+    for _ in 0..count {
         let Some(channel) = bits.take(7) else {
             return Err(Fault::at(Refusal::SheetEndsEarly, bits.place()));
         };
-        channels[i] = channel as u8;
+        channels.push(channel as u8);
     }
-    Ok(ChannelList {
-        count: count as u8,
-        channels,
-    })
+    Ok(channels)
 }
 
 fn read_picture(bits: &mut BitReader) -> Result<Record, Fault>
-    ensures { read_told record_told result (left bits.new) bits.new.at ≡ read_as picture_format (left bits.old) bits.old.at }
+    ensures { Reads record_told picture_format result bits.old bits.new }
 {
     let Some(party) = bits.take(5) else {
         return Err(Fault::at(Refusal::SheetEndsEarly, bits.place()));
@@ -62,7 +59,7 @@ fn read_picture(bits: &mut BitReader) -> Result<Record, Fault>
 }
 
 fn read_turn(bits: &mut BitReader) -> Result<Record, Fault>
-    ensures { read_told record_told result (left bits.new) bits.new.at ≡ read_as turn_format (left bits.old) bits.old.at }
+    ensures { Reads record_told turn_format result bits.old bits.new }
 {
     let Some(party) = bits.take(5) else {
         return Err(Fault::at(Refusal::SheetEndsEarly, bits.place()));
@@ -71,7 +68,7 @@ fn read_turn(bits: &mut BitReader) -> Result<Record, Fault>
 }
 
 fn read_release(bits: &mut BitReader) -> Result<Record, Fault>
-    ensures { read_told record_told result (left bits.new) bits.new.at ≡ read_as release_format (left bits.old) bits.old.at }
+    ensures { Reads record_told release_format result bits.old bits.new }
 {
     let Some(party) = bits.take(5) else {
         return Err(Fault::at(Refusal::SheetEndsEarly, bits.place()));
@@ -80,7 +77,7 @@ fn read_release(bits: &mut BitReader) -> Result<Record, Fault>
 }
 
 fn read_look(bits: &mut BitReader) -> Result<Record, Fault>
-    ensures { read_told record_told result (left bits.new) bits.new.at ≡ read_as look_format (left bits.old) bits.old.at }
+    ensures { Reads record_told look_format result bits.old bits.new }
 {
     let Some(party) = bits.take(5) else {
         return Err(Fault::at(Refusal::SheetEndsEarly, bits.place()));
@@ -96,7 +93,7 @@ fn read_look(bits: &mut BitReader) -> Result<Record, Fault>
 
 // The next record, or none at the end code.
 pub(crate) fn read_record(bits: &mut BitReader) -> Result<Option<Record>, Fault>
-    ensures { read_told (option_told record_told) result (left bits.new) bits.new.at ≡ read_as entry_format (left bits.old) bits.old.at }
+    ensures { Reads (option_told record_told) entry_format result bits.old bits.new }
 {
     let place = bits.place();
     let Some(code) = bits.take(3) else {

@@ -1,9 +1,9 @@
-ghost use Rattle.std.specs.Prelude.{◌≡◌, ◌≤◌, true, [], map, is_ok, IfOk, if◌then◌else◌, Some, None, vec_capacity};
+ghost use Rattle.std.specs.Prelude.{◌≡◌, ◌≤◌, true, [], length, map, is_ok, IfOk, if◌then◌else◌, Some, None, vec_capacity};
+ghost use Rattle.std.specs.Int.Digits.{AllBelowBase};
 ghost use Rattle.sheet_rules.specs.Bits.{bits_of};
 ghost use Rattle.sheet_rules.specs.Contents.{fault_at};
 ghost use Rattle.sheet_rules.specs.Formats.{only_fill};
-ghost use Rattle.sheet_rules.specs.Sheets.{Ends, ReadRight};
-ghost use Rattle.sheet.specs.Left.{left};
+ghost use Rattle.sheet_rules.specs.Sheets.{most_bits, Ends, ReadRight};
 ghost use Rattle.sheet.specs.Told.{record_told, fault_told, option_told, contents_told};
 
 use crate::bit_reader::BitReader;
@@ -18,7 +18,7 @@ const MOST_BYTES: usize = 65_536;
 
 // Behind the end code only zero bits may fill the byte.
 fn fault_after_end(bits: &BitReader) -> Option<Fault>
-    ensures { option_told fault_told result ≡ (if only_fill (left bits.now) then None else Some (fault_at 23 bits.now.at)) }
+    ensures { option_told fault_told result ≡ (if only_fill bits.now.bits then None else Some (fault_at 23 bits.now.place)) }
 {
     if bits.only_fill_left() {
         return None;
@@ -31,20 +31,29 @@ fn read_records(
     bits: &mut BitReader,
     records: &mut Vec<Record>,
 ) -> Result<Option<Fault>, AllocError>
-    requires { records.old.items ≡ [] }
-    ensures said { IfOk result (λ f. Ends (left bits.old) bits.old.at (map record_told records.new.items) (option_told fault_told f)) }
+    requires empty { records.old.items ≡ [] }
+    requires binary { AllBelowBase 2 bits.old.bits }
+    requires short { length bits.old.bits ≤ most_bits }
+    ensures said { IfOk result (λ f. Ends bits.old.bits bits.old.place (map record_told records.new.items) (option_told fault_told f)) }
     ensures succeeds { 65536 ≤ vec_capacity records.old → is_ok result ≡ true }
 {
     loop {
         match read_record(bits) {
-            Ok(next) => {
-                let Some(record) = next else {
-                    return Ok(fault_after_end(bits));
-                };
-                records.push(record)?;
-            }
+            Ok(Some(record)) => records.push(record)?,
+            Ok(None) => return Ok(fault_after_end(bits)),
             Err(fault) => return Ok(Some(fault)),
         }
+    }
+}
+
+// The summary of a sheet whose header is not whole.
+fn nothing_but(fault: Fault) -> Summary
+    ensures header { result.header ≡ None }
+    ensures fault { result.fault ≡ Some fault }
+{
+    Summary {
+        header: None,
+        fault: Some(fault),
     }
 }
 
@@ -58,24 +67,16 @@ pub fn read_sheet(bytes: &[u8], records: &mut Vec<Record>) -> Result<Summary, Al
 {
     records.clear();
     if bytes.len() > MOST_BYTES {
-        let fault = Fault::at(Refusal::SheetTooLong, 0);
-        return Ok(Summary {
-            header: None,
-            fault: Some(fault),
-        });
+        return Ok(nothing_but(Fault::at(Refusal::SheetTooLong, 0)));
     }
-    let mut bits = BitReader { bytes, at: 0 };
-    match read_header(&mut bits) {
-        Ok(header) => {
-            let fault = read_records(&mut bits, records)?;
-            Ok(Summary {
-                header: Some(header),
-                fault,
-            })
-        }
-        Err(fault) => Ok(Summary {
-            header: None,
-            fault: Some(fault),
-        }),
-    }
+    let mut bits = BitReader::new(bytes);
+    let header = match read_header(&mut bits) {
+        Ok(header) => header,
+        Err(fault) => return Ok(nothing_but(fault)),
+    };
+    let fault = read_records(&mut bits, records)?;
+    Ok(Summary {
+        header: Some(header),
+        fault,
+    })
 }

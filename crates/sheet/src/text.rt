@@ -1,33 +1,25 @@
 //! Sheets in plain words, as people read them.
-use crate::channel_list::ChannelList;
 use crate::words::{Fault, Header, Kind, Layer, Record};
-use plan::check::ShelfType;
+use plan::check::Plan;
 use std::fmt;
 
 impl fmt::Display for Kind {
     fn fmt<W: fmt::Write>(&self, f: &mut fmt::Formatter<W>) -> fmt::Result {
-        match self {
-            Kind::Tally => f.write_str("tally"),
-            Kind::Capture => f.write_str("capture"),
-        }
-    }
-}
-
-fn shelf_name(shelf: ShelfType) -> &'static str {
-    match shelf {
-        ShelfType::Flag => "flag",
-        ShelfType::Block => "block",
+        f.write_str(match self {
+            Kind::Tally => "tally",
+            Kind::Capture => "capture",
+        })
     }
 }
 
 impl fmt::Display for Header {
     fn fmt<W: fmt::Write>(&self, f: &mut fmt::Formatter<W>) -> fmt::Result {
-        let kind = self.kind;
-        let shelf = shelf_name(self.shelf);
-        let plan = self.plan;
-        let parties = plan.parties;
-        let links = plan.links;
-        let channels = plan.channels;
+        let Header { kind, shelf, plan } = self;
+        let Plan {
+            parties,
+            links,
+            channels,
+        } = plan;
         write!(
             f,
             "sheet kind {kind} shelf {shelf} parties {parties} links {links} channels {channels}"
@@ -35,22 +27,9 @@ impl fmt::Display for Header {
     }
 }
 
-impl fmt::Display for ChannelList {
-    fn fmt<W: fmt::Write>(&self, f: &mut fmt::Formatter<W>) -> fmt::Result {
-        let channels = self.as_slice();
-        if channels.is_empty() {
-            return f.write_str(" none");
-        }
-        for channel in channels {
-            write!(f, " {channel}")?;
-        }
-        Ok(())
-    }
-}
-
 impl fmt::Display for Record {
     fn fmt<W: fmt::Write>(&self, f: &mut fmt::Formatter<W>) -> fmt::Result {
-        match *self {
+        match self {
             Record::Amendment {
                 party,
                 channel,
@@ -61,10 +40,16 @@ impl fmt::Display for Record {
                     "amendment party {party} channel {channel} word 0x{word:016X}"
                 )
             }
-            Record::Picture { party, channels } => write!(
-                f,
-                "picture party {party} channels{channels}"
-            ),
+            Record::Picture { party, channels } => {
+                write!(f, "picture party {party} channels")?;
+                if channels.is_empty() {
+                    return f.write_str(" none");
+                }
+                for channel in channels {
+                    write!(f, " {channel}")?;
+                }
+                Ok(())
+            }
             Record::Turn { party } => write!(f, "turn party {party}"),
             Record::Release { party } => write!(f, "release party {party}"),
             Record::Look { party, link } => write!(f, "look party {party} link {link}"),
@@ -74,19 +59,22 @@ impl fmt::Display for Record {
 
 impl fmt::Display for Layer {
     fn fmt<W: fmt::Write>(&self, f: &mut fmt::Formatter<W>) -> fmt::Result {
-        match self {
-            Layer::Plan => f.write_str("plan"),
-            Layer::Sheet => f.write_str("sheet"),
-            Layer::Runner => f.write_str("runner"),
-        }
+        f.write_str(match self {
+            Layer::Plan => "plan",
+            Layer::Sheet => "sheet",
+            Layer::Runner => "runner",
+        })
     }
 }
 
 impl fmt::Display for Fault {
     fn fmt<W: fmt::Write>(&self, f: &mut fmt::Formatter<W>) -> fmt::Result {
-        let number = self.refusal.number();
-        let place = self.place;
-        let layer = self.layer;
+        let Fault {
+            refusal,
+            layer,
+            place,
+        } = self;
+        let number = refusal.number();
         write!(f, "fault {number} at {place} ({layer})")
     }
 }

@@ -160,14 +160,14 @@ one_meaning bits u c d p q = said bits c u p ∙ sym (said bits d u q)
 -- bits that say something without a fault are a sheet
 whole_behind : (bits : List ℕ) (h : Header) (rest : List ℕ) (k : ℕ) {es : List Entry} {f : Option Fault} → length bits ≤ most_bits → HeaderFits h
     → bits ≡ packed_all (header_fields h) ++ rest → Ends rest k es f → f ≡ None → IsSheet bits h es
-whole_behind bits h rest k s hf e (entry_fails es more g ef q d) n = let z : ◌≡◌ {A = ℕ} 0 1 = cc in absurd (omega arith)
-whole_behind bits h rest k s hf e (runs_on es more ef q no_fill) n = let z : ◌≡◌ {A = ℕ} 0 1 = cc in absurd (omega arith)
+whole_behind bits h rest k s hf e (entry_fails es more g ef q d) n = cc
+whole_behind bits h rest k s hf e (runs_on es more ef q no_fill) n = cc
 whole_behind bits h rest k s hf e (ends es more ef q fill) n =
     record { short = s; header = hf; entries = ef; fill = more; filled = fill; packs = e ∙ ap (λ (xs : List ℕ). packed_all (header_fields h) ++ xs) q }
 
 whole_said : (bits : List ℕ) {c : Contents} → Says bits c → c.fault ≡ None → (h : Header) × (es : List Entry) × IsSheet bits h es × (c ≡ read_to h es None)
-whole_said bits (too_long l) n = let z : ◌≡◌ {A = ℕ} 0 1 = cc in absurd (omega arith)
-whole_said bits (header_fails f s d) n = let z : ◌≡◌ {A = ℕ} 0 1 = cc in absurd (omega arith)
+whole_said bits (too_long l) n = cc
+whole_said bits (header_fails f s d) n = cc
 whole_said bits (goes_on h es rest f s hf e d) n =
     (h, es, whole_behind bits h rest (length (packed_all (header_fields h))) s hf e d n, ap (read_to h es) n)
 

@@ -91,7 +91,7 @@ field_found bits w v u e = ⊎_elim yes_way no_way (cases_Bool (leb w (length bi
     no_way : leb w (length bits) ≡ false → Found bits w v
     no_way t =
         let s : ◌≡◌ {A = Option ℕ} None (Some v) = sym (cond-false _ (Some (number_from_digits 2 (take w bits))) None t) ∙ e in
-        let z : ◌≡◌ {A = ℕ} 0 1 = cc in absurd (omega arith)
+        cc
 
 pub field_missing : (bits : List ℕ) (w : ℕ) → field_in bits w ≡ None → length bits < w
 unfolding field_in
@@ -100,4 +100,4 @@ field_missing bits w e = ⊎_elim yes_way (λ t. leb-false _ _ t) (cases_Bool (l
     yes_way : leb w (length bits) ≡ true → length bits < w
     yes_way t =
         let s : Some (number_from_digits 2 (take w bits)) ≡ None = sym (cond-true _ _ None t) ∙ e in
-        let z : ◌≡◌ {A = ℕ} 0 1 = cc in omega arith
+        cc

@@ -36,7 +36,7 @@ module _ {A : Type 0} where
     pub follows : read_as (f value) (drop w bits) (k + w) ≡ r
 
   got_not_fails : (a : A) (bits : List ℕ) (k : ℕ) (e : Fault) → ◌≡◌ {A = Read A} (fails e) (got a bits k) → ⊥
-  got_not_fails a bits k e p = let z : ◌≡◌ {A = ℕ} 0 1 = cc in omega arith
+  got_not_fails a bits k e p = cc
 
   -- a field that was read with success
   pub step_got : (w : ℕ) (wrong : ℕ → Bool) (n : ℕ) (f : ℕ → Format A) (bits : List ℕ) (k : ℕ) (a : A) (rest : List ℕ) (k' : ℕ)
@@ -57,7 +57,7 @@ module _ {A : Type 0} where
   same_fault d e p = cc
 
   not_given : (g : Format A) (a : A) (bits : List ℕ) (k : ℕ) (e : Fault) → ◌≡◌ {A = Read A} (got a bits k) (fails e) → Fails g bits k e
-  not_given g a bits k e p = let z : ◌≡◌ {A = ℕ} 0 1 = cc in absurd (omega arith)
+  not_given g a bits k e p = cc
 
   -- where reading fails, it is at the first field that fails
   pub read_fails : (g : Format A) (bits : List ℕ) (k : ℕ) (e : Fault) → AllBelowBase 2 bits → read_as g bits k ≡ fails e → Fails g bits k e

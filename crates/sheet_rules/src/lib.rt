@@ -4,6 +4,7 @@
 ghost use Rattle.sheet_rules.specs.Sheets.{OneMeaning};
 
 /// Does nothing; promises that no sheet can be read in two ways.
+#[tactic(auto, using(crate::proofs::Meaning::one_meaning))]
 pub fn sheets_say_one_thing()
     ensures { OneMeaning }
 {}

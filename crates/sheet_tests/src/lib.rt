@@ -1,461 +1,562 @@
 //! Tests of plans, kinds of reading and run sheets on examples.
 #![tactic(auto)]
 
+ghost use Rattle.std.specs.Prelude.{◌<◌};
+
 #[cfg(test)]
 mod tests {
-    use plan::check::{ShelfType, check_plan};
+    use plan::check::{Plan, ShelfType, check_plan};
     use plan::refusal::Refusal;
     use reading::capture::Capture;
     use reading::kind::{Reading, amend};
     use reading::tally::Tally;
     use sheet::sheet::read_sheet;
-    use sheet::words::Layer;
+    use sheet::words::{Fault, Layer, Record, Summary};
+    use std::fmt::Display;
     use std::process::Abort;
     use std::test::Fail;
 
-    // A sheet, and the fault that it must give: number (0 for none), place, layer.
-    struct Case {
-        bytes: &'static [u8],
+    // A fault that a sheet must give, its refusal by number.
+    #[derive(Clone, Copy, PartialEq, Eq, Debug)]
+    struct Expected {
         number: u8,
         place: usize,
         layer: Layer,
+    }
+
+    impl Expected {
+        fn of(fault: Fault) -> Expected {
+            Expected {
+                number: fault.refusal.number(),
+                place: fault.place,
+                layer: fault.layer,
+            }
+        }
+    }
+
+    // A sheet, and its fault, if it has one.
+    struct Case {
+        bytes: &'static [u8],
+        fault: Option<Expected>,
     }
 
     static CASES: [Case; 58] = [
         // empty
         Case {
             bytes: &[],
-            number: 20,
-            place: 0,
-            layer: Layer::Sheet,
+            fault: Some(Expected {
+                number: 20,
+                place: 0,
+                layer: Layer::Sheet,
+            }),
         },
         // N cut
         Case {
             bytes: &[0x11],
-            number: 20,
-            place: 8,
-            layer: Layer::Sheet,
+            fault: Some(Expected {
+                number: 20,
+                place: 8,
+                layer: Layer::Sheet,
+            }),
         },
         // C cut
         Case {
             bytes: &[0x11, 0x11],
-            number: 20,
-            place: 16,
-            layer: Layer::Sheet,
+            fault: Some(Expected {
+                number: 20,
+                place: 16,
+                layer: Layer::Sheet,
+            }),
         },
         // code cut
         Case {
             bytes: &[0x11, 0x11, 0x02],
-            number: 20,
-            place: 24,
-            layer: Layer::Sheet,
+            fault: Some(Expected {
+                number: 20,
+                place: 24,
+                layer: Layer::Sheet,
+            }),
         },
         // version 0
         Case {
             bytes: &[0x01, 0x11, 0x02, 0x00],
-            number: 21,
-            place: 0,
-            layer: Layer::Sheet,
+            fault: Some(Expected {
+                number: 21,
+                place: 0,
+                layer: Layer::Sheet,
+            }),
         },
         // version 2
         Case {
             bytes: &[0x21, 0x11, 0x02, 0x00],
-            number: 21,
-            place: 0,
-            layer: Layer::Sheet,
+            fault: Some(Expected {
+                number: 21,
+                place: 0,
+                layer: Layer::Sheet,
+            }),
         },
         // version 15
         Case {
             bytes: &[0xF1, 0x11, 0x02, 0x00],
-            number: 21,
-            place: 0,
-            layer: Layer::Sheet,
+            fault: Some(Expected {
+                number: 21,
+                place: 0,
+                layer: Layer::Sheet,
+            }),
         },
         // kind 2
         Case {
             bytes: &[0x19, 0x11, 0x02, 0x00],
-            number: 21,
-            place: 4,
-            layer: Layer::Sheet,
+            fault: Some(Expected {
+                number: 21,
+                place: 4,
+                layer: Layer::Sheet,
+            }),
         },
         // kind 3
         Case {
             bytes: &[0x1D, 0x11, 0x02, 0x00],
-            number: 21,
-            place: 4,
-            layer: Layer::Sheet,
+            fault: Some(Expected {
+                number: 21,
+                place: 4,
+                layer: Layer::Sheet,
+            }),
         },
         // shelf 2
         Case {
             bytes: &[0x12, 0x11, 0x02, 0x00],
-            number: 21,
-            place: 6,
-            layer: Layer::Sheet,
+            fault: Some(Expected {
+                number: 21,
+                place: 6,
+                layer: Layer::Sheet,
+            }),
         },
         // shelf 3
         Case {
             bytes: &[0x13, 0x11, 0x02, 0x00],
-            number: 21,
-            place: 6,
-            layer: Layer::Sheet,
+            fault: Some(Expected {
+                number: 21,
+                place: 6,
+                layer: Layer::Sheet,
+            }),
         },
         // N 0
         Case {
             bytes: &[0x11, 0x01, 0x02, 0x00],
-            number: 11,
-            place: 8,
-            layer: Layer::Plan,
+            fault: Some(Expected {
+                number: 11,
+                place: 8,
+                layer: Layer::Plan,
+            }),
         },
         // N 25
         Case {
             bytes: &[0x11, 0xC9, 0x02, 0x00],
-            number: 11,
-            place: 8,
-            layer: Layer::Plan,
+            fault: Some(Expected {
+                number: 11,
+                place: 8,
+                layer: Layer::Plan,
+            }),
         },
         // N 31
         Case {
             bytes: &[0x11, 0xF9, 0x02, 0x00],
-            number: 11,
-            place: 8,
-            layer: Layer::Plan,
+            fault: Some(Expected {
+                number: 11,
+                place: 8,
+                layer: Layer::Plan,
+            }),
         },
         // K 0
         Case {
             bytes: &[0x11, 0x10, 0x02, 0x00],
-            number: 12,
-            place: 13,
-            layer: Layer::Plan,
+            fault: Some(Expected {
+                number: 12,
+                place: 13,
+                layer: Layer::Plan,
+            }),
         },
         // K 5
         Case {
             bytes: &[0x11, 0x15, 0x02, 0x00],
-            number: 12,
-            place: 13,
-            layer: Layer::Plan,
+            fault: Some(Expected {
+                number: 12,
+                place: 13,
+                layer: Layer::Plan,
+            }),
         },
         // K 7
         Case {
             bytes: &[0x11, 0x17, 0x02, 0x00],
-            number: 12,
-            place: 13,
-            layer: Layer::Plan,
+            fault: Some(Expected {
+                number: 12,
+                place: 13,
+                layer: Layer::Plan,
+            }),
         },
         // C 0
         Case {
             bytes: &[0x11, 0x11, 0x00, 0x00],
-            number: 13,
-            place: 16,
-            layer: Layer::Plan,
+            fault: Some(Expected {
+                number: 13,
+                place: 16,
+                layer: Layer::Plan,
+            }),
         },
         // C 65
         Case {
             bytes: &[0x11, 0x11, 0x82, 0x00],
-            number: 13,
-            place: 16,
-            layer: Layer::Plan,
+            fault: Some(Expected {
+                number: 13,
+                place: 16,
+                layer: Layer::Plan,
+            }),
         },
         // C 127
         Case {
             bytes: &[0x11, 0x11, 0xFE, 0x00],
-            number: 13,
-            place: 16,
-            layer: Layer::Plan,
+            fault: Some(Expected {
+                number: 13,
+                place: 16,
+                layer: Layer::Plan,
+            }),
         },
         // spare
         Case {
             bytes: &[0x11, 0x11, 0x03, 0x00],
-            number: 21,
-            place: 23,
-            layer: Layer::Sheet,
+            fault: Some(Expected {
+                number: 21,
+                place: 23,
+                layer: Layer::Sheet,
+            }),
         },
         // the first fault counts
         Case {
             bytes: &[0x21, 0x01, 0x02],
-            number: 21,
-            place: 0,
-            layer: Layer::Sheet,
+            fault: Some(Expected {
+                number: 21,
+                place: 0,
+                layer: Layer::Sheet,
+            }),
         },
         // the first fault counts
         Case {
             bytes: &[0x11, 0xC8, 0x00],
-            number: 11,
-            place: 8,
-            layer: Layer::Plan,
+            fault: Some(Expected {
+                number: 11,
+                place: 8,
+                layer: Layer::Plan,
+            }),
         },
         // code 6
         Case {
             bytes: &[0x11, 0x11, 0x02, 0xC0],
-            number: 22,
-            place: 24,
-            layer: Layer::Sheet,
+            fault: Some(Expected {
+                number: 22,
+                place: 24,
+                layer: Layer::Sheet,
+            }),
         },
         // code 6 after a turn
         Case {
             bytes: &[0x11, 0x11, 0x02, 0x60, 0xC0],
-            number: 22,
-            place: 32,
-            layer: Layer::Sheet,
+            fault: Some(Expected {
+                number: 22,
+                place: 32,
+                layer: Layer::Sheet,
+            }),
         },
         // code 7
         Case {
             bytes: &[0x11, 0x11, 0x02, 0xE0],
-            number: 22,
-            place: 24,
-            layer: Layer::Sheet,
+            fault: Some(Expected {
+                number: 22,
+                place: 24,
+                layer: Layer::Sheet,
+            }),
         },
         // code 7 after a turn
         Case {
             bytes: &[0x11, 0x11, 0x02, 0x60, 0xE0],
-            number: 22,
-            place: 32,
-            layer: Layer::Sheet,
+            fault: Some(Expected {
+                number: 22,
+                place: 32,
+                layer: Layer::Sheet,
+            }),
         },
         // last fill bit set
         Case {
             bytes: &[0x11, 0x11, 0x02, 0x01],
-            number: 23,
-            place: 27,
-            layer: Layer::Sheet,
+            fault: Some(Expected {
+                number: 23,
+                place: 27,
+                layer: Layer::Sheet,
+            }),
         },
         // first fill bit set
         Case {
             bytes: &[0x11, 0x11, 0x02, 0x10],
-            number: 23,
-            place: 27,
-            layer: Layer::Sheet,
+            fault: Some(Expected {
+                number: 23,
+                place: 27,
+                layer: Layer::Sheet,
+            }),
         },
         // a further zero byte
         Case {
             bytes: &[0x11, 0x11, 0x02, 0x00, 0x00],
-            number: 23,
-            place: 27,
-            layer: Layer::Sheet,
+            fault: Some(Expected {
+                number: 23,
+                place: 27,
+                layer: Layer::Sheet,
+            }),
         },
         // a further byte
         Case {
             bytes: &[0x11, 0x11, 0x02, 0x00, 0xFF],
-            number: 23,
-            place: 27,
-            layer: Layer::Sheet,
+            fault: Some(Expected {
+                number: 23,
+                place: 27,
+                layer: Layer::Sheet,
+            }),
         },
         // ends exactly at a byte
         Case {
             bytes: &[0x11, 0x11, 0x02, 0x43, 0xC0, 0x00, 0x82, 0x06, 0x10, 0x28],
-            number: 0,
-            place: 0,
-            layer: Layer::Sheet,
+            fault: None,
         },
         // a byte after an end at a byte
         Case {
             bytes: &[
                 0x11, 0x11, 0x02, 0x43, 0xC0, 0x00, 0x82, 0x06, 0x10, 0x28, 0x00,
             ],
-            number: 23,
-            place: 80,
-            layer: Layer::Sheet,
+            fault: Some(Expected {
+                number: 23,
+                place: 80,
+                layer: Layer::Sheet,
+            }),
         },
         // an amendment
         Case {
             bytes: &[
                 0x11, 0x11, 0x02, 0x20, 0x00, 0x00, 0x00, 0x00, 0x00, 0x00, 0x00, 0x00, 0x0A, 0x00,
             ],
-            number: 0,
-            place: 0,
-            layer: Layer::Sheet,
+            fault: None,
         },
         // amendment's channel cut
         Case {
             bytes: &[0x11, 0x11, 0x02, 0x20],
-            number: 20,
-            place: 32,
-            layer: Layer::Sheet,
+            fault: Some(Expected {
+                number: 20,
+                place: 32,
+                layer: Layer::Sheet,
+            }),
         },
         // amendment's word cut
         Case {
             bytes: &[0x11, 0x11, 0x02, 0x20, 0x00],
-            number: 20,
-            place: 39,
-            layer: Layer::Sheet,
+            fault: Some(Expected {
+                number: 20,
+                place: 39,
+                layer: Layer::Sheet,
+            }),
         },
         // amendment's word cut late
         Case {
             bytes: &[
                 0x11, 0x11, 0x02, 0x20, 0x00, 0x00, 0x00, 0x00, 0x00, 0x00, 0x00, 0x00,
             ],
-            number: 20,
-            place: 39,
-            layer: Layer::Sheet,
+            fault: Some(Expected {
+                number: 20,
+                place: 39,
+                layer: Layer::Sheet,
+            }),
         },
         // code cut after an amendment
         Case {
             bytes: &[
                 0x11, 0x11, 0x02, 0x20, 0x00, 0x00, 0x00, 0x00, 0x00, 0x00, 0x00, 0x00, 0x0A,
             ],
-            number: 20,
-            place: 103,
-            layer: Layer::Sheet,
+            fault: Some(Expected {
+                number: 20,
+                place: 103,
+                layer: Layer::Sheet,
+            }),
         },
         // party cut, code 1
         Case {
             bytes: &[0x11, 0x11, 0x02, 0xA1, 0x04],
-            number: 20,
-            place: 38,
-            layer: Layer::Sheet,
+            fault: Some(Expected {
+                number: 20,
+                place: 38,
+                layer: Layer::Sheet,
+            }),
         },
         // party cut, code 2
         Case {
             bytes: &[0x11, 0x11, 0x02, 0xA1, 0x08],
-            number: 20,
-            place: 38,
-            layer: Layer::Sheet,
+            fault: Some(Expected {
+                number: 20,
+                place: 38,
+                layer: Layer::Sheet,
+            }),
         },
         // party cut, code 3
         Case {
             bytes: &[0x11, 0x11, 0x02, 0xA1, 0x0C],
-            number: 20,
-            place: 38,
-            layer: Layer::Sheet,
+            fault: Some(Expected {
+                number: 20,
+                place: 38,
+                layer: Layer::Sheet,
+            }),
         },
         // party cut, code 4
         Case {
             bytes: &[0x11, 0x11, 0x02, 0xA1, 0x10],
-            number: 20,
-            place: 38,
-            layer: Layer::Sheet,
+            fault: Some(Expected {
+                number: 20,
+                place: 38,
+                layer: Layer::Sheet,
+            }),
         },
         // party cut, code 5
         Case {
             bytes: &[0x11, 0x11, 0x02, 0xA1, 0x14],
-            number: 20,
-            place: 38,
-            layer: Layer::Sheet,
+            fault: Some(Expected {
+                number: 20,
+                place: 38,
+                layer: Layer::Sheet,
+            }),
         },
         // picture's count cut
         Case {
             bytes: &[0x11, 0x11, 0x02, 0x40],
-            number: 20,
-            place: 32,
-            layer: Layer::Sheet,
+            fault: Some(Expected {
+                number: 20,
+                place: 32,
+                layer: Layer::Sheet,
+            }),
         },
         // picture's channel cut
         Case {
             bytes: &[0x11, 0x11, 0x02, 0x40, 0xE0],
-            number: 20,
-            place: 35,
-            layer: Layer::Sheet,
+            fault: Some(Expected {
+                number: 20,
+                place: 35,
+                layer: Layer::Sheet,
+            }),
         },
         // picture's channel cut
         Case {
             bytes: &[0x11, 0x11, 0x02, 0x40, 0xE0, 0x41],
-            number: 20,
-            place: 42,
-            layer: Layer::Sheet,
+            fault: Some(Expected {
+                number: 20,
+                place: 42,
+                layer: Layer::Sheet,
+            }),
         },
         // picture's channel cut
         Case {
             bytes: &[0x11, 0x11, 0x02, 0x40, 0xE0, 0x41, 0x03],
-            number: 20,
-            place: 56,
-            layer: Layer::Sheet,
+            fault: Some(Expected {
+                number: 20,
+                place: 56,
+                layer: Layer::Sheet,
+            }),
         },
         // picture's channel cut
         Case {
             bytes: &[0x11, 0x11, 0x02, 0x40, 0xE0, 0x41, 0x03, 0x08],
-            number: 20,
-            place: 63,
-            layer: Layer::Sheet,
+            fault: Some(Expected {
+                number: 20,
+                place: 63,
+                layer: Layer::Sheet,
+            }),
         },
         // picture's channel cut
         Case {
             bytes: &[0x11, 0x11, 0x02, 0x40, 0xE0, 0x41, 0x03, 0x08, 0x14],
-            number: 20,
-            place: 70,
-            layer: Layer::Sheet,
+            fault: Some(Expected {
+                number: 20,
+                place: 70,
+                layer: Layer::Sheet,
+            }),
         },
         // picture's channel cut
         Case {
             bytes: &[0x11, 0x11, 0x02, 0x40, 0xE0, 0x41, 0x03, 0x08, 0x14, 0x30],
-            number: 20,
-            place: 77,
-            layer: Layer::Sheet,
+            fault: Some(Expected {
+                number: 20,
+                place: 77,
+                layer: Layer::Sheet,
+            }),
         },
         // look's link cut
         Case {
             bytes: &[0x11, 0x11, 0x02, 0xA1],
-            number: 20,
-            place: 32,
-            layer: Layer::Sheet,
+            fault: Some(Expected {
+                number: 20,
+                place: 32,
+                layer: Layer::Sheet,
+            }),
         },
         // code cut after a turn
         Case {
             bytes: &[0x11, 0x11, 0x02, 0x60],
-            number: 20,
-            place: 32,
-            layer: Layer::Sheet,
+            fault: Some(Expected {
+                number: 20,
+                place: 32,
+                layer: Layer::Sheet,
+            }),
         },
         // code cut after a release
         Case {
             bytes: &[0x11, 0x11, 0x02, 0x80],
-            number: 20,
-            place: 32,
-            layer: Layer::Sheet,
+            fault: Some(Expected {
+                number: 20,
+                place: 32,
+                layer: Layer::Sheet,
+            }),
         },
         // no records
         Case {
             bytes: &[0x11, 0x11, 0x02, 0x00],
-            number: 0,
-            place: 0,
-            layer: Layer::Sheet,
+            fault: None,
         },
         // largest plan
         Case {
             bytes: &[0x10, 0xC4, 0x80, 0x00],
-            number: 0,
-            place: 0,
-            layer: Layer::Sheet,
+            fault: None,
         },
         // largest plan
         Case {
             bytes: &[0x11, 0xC4, 0x80, 0x00],
-            number: 0,
-            place: 0,
-            layer: Layer::Sheet,
+            fault: None,
         },
         // largest plan
         Case {
             bytes: &[0x14, 0xC4, 0x80, 0x00],
-            number: 0,
-            place: 0,
-            layer: Layer::Sheet,
+            fault: None,
         },
         // largest plan
         Case {
             bytes: &[0x15, 0xC4, 0x80, 0x00],
-            number: 0,
-            place: 0,
-            layer: Layer::Sheet,
+            fault: None,
         },
     ];
 
-    fn check_case(rt: &(impl Abort + AllocGlobal), case: &Case) -> Result<(), Fail> {
+    // What a sheet comes to, and its records.
+    fn read(rt: &HostRuntime, bytes: &[u8]) -> Result<(Summary, Vec<Record>), Fail> {
         let mut records = Vec::new(rt.alloc());
-        let summary = read_sheet(case.bytes, &mut records)?;
-        match summary.fault {
-            Some(fault) => {
-                assert_eq!(rt; fault.refusal.number(), case.number);
-                assert_eq!(rt; fault.place, case.place);
-                assert_eq!(rt; fault.layer, case.layer);
-            }
-            None => assert_eq!(rt; 0, case.number),
-        }
-        Ok(())
+        let summary = read_sheet(bytes, &mut records)?;
+        Ok((summary, records))
     }
 
     #[test]
     fn every_fault_at_every_field(rt: HostRuntime) -> Result<(), Fail> {
         for case in &CASES {
-            check_case(&rt, case)?;
+            let (summary, _records) = read(&rt, case.bytes)?;
+            assert_eq!(rt; summary.fault.map(Expected::of), case.fault);
         }
         Ok(())
     }
@@ -474,29 +575,40 @@ mod tests {
         "look party 31 link 7",
     ];
 
-    #[test]
-    fn every_kind_of_record(rt: HostRuntime) -> Result<(), Fail> {
-        let mut records = Vec::new(rt.alloc());
-        let summary = read_sheet(&ALL_RECORDS, &mut records)?;
-        assert!(rt; summary.fault.is_none());
-        assert_eq!(rt; records.len(), 6);
-        for (record, line) in records.iter().zip(LINES.iter()) {
-            let text = format!(in rt.alloc(); "{record}")?;
-            assert!(rt; text.as_str() == *line);
-        }
-        let header = summary.header.ok_or("no header")?;
-        let text = format!(in rt.alloc(); "{header}")?;
-        assert!(rt; text.as_str() == "sheet kind tally shelf block parties 2 links 1 channels 1");
+    // Whether a value is shown as this line.
+    fn check_text<T: Display>(
+        rt: &(impl Abort + AllocGlobal),
+        shown: &T,
+        line: &str,
+    ) -> Result<(), Fail> {
+        let text = format!(in rt.alloc(); "{shown}")?;
+        assert_eq!(rt; text.as_str(), line);
         Ok(())
     }
 
+    #[test]
+    fn every_kind_of_record(rt: HostRuntime) -> Result<(), Fail> {
+        let (summary, records) = read(&rt, &ALL_RECORDS)?;
+        assert!(rt; summary.fault.is_none());
+        assert_eq!(rt; records.len(), 6);
+        for (record, line) in records.iter().zip(LINES.iter()) {
+            check_text(&rt, record, line)?;
+        }
+        let header = summary.header.ok_or("no header")?;
+        check_text(
+            &rt,
+            &header,
+            "sheet kind tally shelf block parties 2 links 1 channels 1",
+        )
+    }
+
     // A header, turns of one byte each, and the end: `bytes` in all.
-    fn turns(rt: &HostRuntime, bytes: usize) -> Result<Vec<u8>, Fail> {
+    fn turns(rt: &HostRuntime, bytes: usize) -> Result<Vec<u8>, Fail>
+        requires { 0 < bytes }
+    {
         let mut sheet = Vec::new(rt.alloc());
         sheet.extend_from_slice(&[0x11, 0x11, 0x02])?;
-        for _ in 4..bytes {
-            sheet.push(0x60)?;
-        }
+        sheet.resize(bytes - 1, 0x60)?;
         sheet.push(0)?;
         Ok(sheet)
     }
@@ -505,8 +617,7 @@ mod tests {
     fn longest_sheet(rt: HostRuntime) -> Result<(), Fail> {
         let sheet = turns(&rt, 65_536)?;
         assert_eq!(rt; sheet.len(), 65_536);
-        let mut records = Vec::new(rt.alloc());
-        let summary = read_sheet(sheet.as_slice(), &mut records)?;
+        let (summary, records) = read(&rt, sheet.as_slice())?;
         assert!(rt; summary.fault.is_none());
         assert_eq!(rt; records.len(), 65_532);
         Ok(())
@@ -516,38 +627,48 @@ mod tests {
     fn too_long_a_sheet(rt: HostRuntime) -> Result<(), Fail> {
         let sheet = turns(&rt, 65_537)?;
         assert_eq!(rt; sheet.len(), 65_537);
-        let mut records = Vec::new(rt.alloc());
-        let summary = read_sheet(sheet.as_slice(), &mut records)?;
+        let (summary, records) = read(&rt, sheet.as_slice())?;
         assert!(rt; summary.header.is_none());
         assert_eq!(rt; records.len(), 0);
-        let fault = summary.fault.ok_or("no fault")?;
-        assert_eq!(rt; fault.refusal.number(), 24);
-        assert_eq!(rt; fault.place, 0);
-        assert_eq!(rt; fault.layer, Layer::Sheet);
+        let fault = Expected {
+            number: 24,
+            place: 0,
+            layer: Layer::Sheet,
+        };
+        assert_eq!(rt; summary.fault.map(Expected::of), Some(fault));
         Ok(())
     }
 
-    fn refused(parties: u8, links: u8, channels: u8, shelf: ShelfType, blocks: usize) -> u8 {
-        match check_plan(parties, links, channels, shelf, blocks) {
-            Ok(_) => 0,
-            Err(refusal) => refusal.number(),
-        }
+    // The number by which a plan is refused, if it is.
+    fn refused(
+        parties: u8,
+        links: u8,
+        channels: u8,
+        shelf: ShelfType,
+        blocks: usize,
+    ) -> Option<u8> {
+        let plan = Plan {
+            parties,
+            links,
+            channels,
+        };
+        check_plan(plan, shelf, blocks).err().map(Refusal::number)
     }
 
     #[test]
     fn plans(rt: HostRuntime) {
-        assert_eq!(rt; refused(2, 1, 1, ShelfType::Block, 7), 0);
-        assert_eq!(rt; refused(2, 1, 1, ShelfType::Block, 6), 14);
-        assert_eq!(rt; refused(2, 1, 1, ShelfType::Flag, 3), 0);
-        assert_eq!(rt; refused(2, 1, 1, ShelfType::Flag, 2), 14);
-        assert_eq!(rt; refused(24, 4, 64, ShelfType::Block, 2_392), 0);
-        assert_eq!(rt; refused(24, 4, 64, ShelfType::Block, 2_391), 14);
-        assert_eq!(rt; refused(0, 0, 0, ShelfType::Flag, 0), 11);
-        assert_eq!(rt; refused(25, 5, 65, ShelfType::Flag, 0), 11);
-        assert_eq!(rt; refused(24, 0, 65, ShelfType::Flag, 0), 12);
-        assert_eq!(rt; refused(24, 5, 65, ShelfType::Flag, 0), 12);
-        assert_eq!(rt; refused(24, 4, 0, ShelfType::Flag, 0), 13);
-        assert_eq!(rt; refused(24, 4, 65, ShelfType::Flag, 0), 13);
+        assert_eq!(rt; refused(2, 1, 1, ShelfType::Block, 7), None);
+        assert_eq!(rt; refused(2, 1, 1, ShelfType::Block, 6), Some(14));
+        assert_eq!(rt; refused(2, 1, 1, ShelfType::Flag, 3), None);
+        assert_eq!(rt; refused(2, 1, 1, ShelfType::Flag, 2), Some(14));
+        assert_eq!(rt; refused(24, 4, 64, ShelfType::Block, 2_392), None);
+        assert_eq!(rt; refused(24, 4, 64, ShelfType::Block, 2_391), Some(14));
+        assert_eq!(rt; refused(0, 0, 0, ShelfType::Flag, 0), Some(11));
+        assert_eq!(rt; refused(25, 5, 65, ShelfType::Flag, 0), Some(11));
+        assert_eq!(rt; refused(24, 0, 65, ShelfType::Flag, 0), Some(12));
+        assert_eq!(rt; refused(24, 5, 65, ShelfType::Flag, 0), Some(12));
+        assert_eq!(rt; refused(24, 4, 0, ShelfType::Flag, 0), Some(13));
+        assert_eq!(rt; refused(24, 4, 65, ShelfType::Flag, 0), Some(13));
     }
 
     #[test]

@@ -1,34 +1,29 @@
-use Rattle.std.proofs.Common.{◌≡◌, List, [], map, Some, None, vec_items, refl, ap, ◌∙◌}
-use Rattle.sheet_rules.specs.Contents.{Contents, Fault, nothing_but}
-use Rattle.sheet.specs.declared.words.Record.{Record}
-use Rattle.sheet.specs.Left.{left}
+use Rattle.std.proofs.Common.{map, vec_items}
 use Rattle.sheet.specs.Told.{record_told, header_told, fault_told, option_told}
-use Rattle.sheet.proofs.Whole.{sheet_too_long, sheet_headed, sheet_headless}
+use Rattle.sheet.proofs.Whole.{under_header, short_header, sheet_too_long, sheet_headed, sheet_headless}
 use Rattle.sheet.proofs.sheet.read_sheet.Goals as goal
 
--- contents without a header or records
-bare : (rs : List Record) (f g : Fault) → rs ≡ [] → f ≡ g → ◌≡◌ {A = Contents} (record { header = None; entries = map record_told rs; fault = Some f }) (nothing_but g)
-bare rs f g e d =
-    ap (λ (xs : List Record). record { header = None; entries = map record_told xs; fault = Some f }) e ∙ ap nothing_but d
+pub returns-then-bytes-gt-MOST_BYTES-clause-said : goal.returns-then-bytes-gt-MOST_BYTES-clause-said
+returns-then-bytes-gt-MOST_BYTES-clause-said c =
+    rw (c.clear.ensures.items, c.nothing_but.ensures.header, c.nothing_but.ensures.fault, c.at.ensures) (sheet_too_long c.args.bytes.now c.if-bytes-gt-MOST_BYTES.true)
 
-pub returns-then-bytes-gt-MOST_BYTES : goal.returns-then-bytes-gt-MOST_BYTES
-returns-then-bytes-gt-MOST_BYTES c = record {
-  succeeds = λ room. refl;
-  said = sheet_too_long c.args.bytes.now c.if-bytes-gt-MOST_BYTES.true _ (bare (vec_items c.clear.new.self) _ _ c.clear.ensures.items c.at-fault.ensures);
-}
+pub read_records-requires-clause-binary : goal.read_records-requires-clause-binary
+read_records-requires-clause-binary c =
+    under_header c.args.bytes.now (header_told c.in-Ok.header) _ _ (rw (c.new-bits.ensures.bits, c.new-bits.ensures.place) at c.in-Ok.ensures)
 
-pub returns-in_ok-fault-in-Ok : goal.returns-in_ok-fault-in-Ok
-unfolding left
-returns-in_ok-fault-in-Ok c = record {
-  succeeds = λ room. refl;
-  said = sheet_headed c.args.bytes.now c.if-bytes-gt-MOST_BYTES.false (header_told c.in-Ok.header) (left c.read_header.new.bits) c.read_header.new.bits.at
-      (map record_told (vec_items c.read_records.new.records)) (option_told fault_told c.in_ok-fault-in-Ok.fault) c.in-Ok.ensures c.in_ok-fault-in-Ok.ensures.said;
-}
+pub read_records-requires-clause-short : goal.read_records-requires-clause-short
+read_records-requires-clause-short c =
+    short_header c.args.bytes.now (header_told c.in-Ok.header) _ _ (rw (c.new-bits.ensures.bits, c.new-bits.ensures.place) at c.in-Ok.ensures)
+    c.if-bytes-gt-MOST_BYTES.false
 
-pub returns-in-Err : goal.returns-in-Err
-unfolding left
-returns-in-Err c = record {
-  succeeds = λ room. refl;
-  said = sheet_headless c.args.bytes.now c.if-bytes-gt-MOST_BYTES.false (fault_told c.in-Err.fault) c.in-Err.ensures _
-      (bare (vec_items c.clear.new.self) _ _ c.clear.ensures.items refl);
-}
+pub returns-clause-said : goal.returns-clause-said
+returns-clause-said c =
+    sheet_headed c.args.bytes.now c.if-bytes-gt-MOST_BYTES.false (header_told c.in-Ok.header) _ _
+    (map record_told (vec_items c.read_records.new.records)) (option_told fault_told c.in_ok-fault.fault)
+    (rw (c.new-bits.ensures.bits, c.new-bits.ensures.place) at c.in-Ok.ensures) c.in_ok-fault.ensures.said
+
+pub returns-in-Err-clause-said : goal.returns-in-Err-clause-said
+returns-in-Err-clause-said c =
+    rw (c.clear.ensures.items, c.nothing_but-in-Err.ensures.header, c.nothing_but-in-Err.ensures.fault)
+    (sheet_headless c.args.bytes.now c.if-bytes-gt-MOST_BYTES.false (fault_told c.in-Err.fault)
+    (rw (c.new-bits.ensures.bits, c.new-bits.ensures.place) at c.in-Err.ensures))
