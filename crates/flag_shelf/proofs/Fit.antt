@@ -1,12 +1,12 @@
 -- What a flag shelf's fields tell: that they fit each other, and the states to which the code leads.
-use Rattle.std.proofs.Common.{◌≡◌, ℕ, ◌+◌, ◌^◌, ◌<◌, false, true, ◌≢◌, List, [], ◌∷◌, map, length, get_or, drop, set, sym, refl, ap, ◌∙◌, subst, arith}
+use Rattle.std.proofs.Common.{◌≡◌, ℕ, ◌+◌, ◌^◌, ◌<◌, false, ◌≢◌, List, [], ◌∷◌, map, length, get_or, drop, set, sym, refl, ap, ◌∙◌, subst, arith}
 use Rattle.std.proofs.lemmas.List.{get_or-drop, get_or_past}
 use Rattle.std.proofs.lemmas.Bool.{true≢false}
 use Rattle.std.proofs.lemmas.Nat.{mul-le}
 use Rattle.plan.specs.Refusals.{Test, accepted, refused, unless_refused}
 use Rattle.plan.specs.declared.check.Plan.{Plan}
 use Rattle.shelf.specs.Meaning.{flat, Own, Meaning, idle, link_at, activity_of}
-use Rattle.shelf.specs.Calls.{known, free, has_link, full, reading_on, is_idle, Turn, Look, looked, turn_answer, after}
+use Rattle.shelf.specs.Calls.{known, free, has_link, full, reading_on, is_idle, Turn, looked, turn_answer, after}
 use Rattle.shelf.specs.declared.answer.Answer.{Answer}
 use Rattle.shelf.proofs.Basics.{own_below}
 use Rattle.shelf.proofs.Passing.{passes}

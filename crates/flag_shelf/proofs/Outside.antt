@@ -1,8 +1,7 @@
 -- No call of a flag shelf touches a block beyond its need.
-use Rattle.std.proofs.Common.{◌≡◌, ℕ, ◌+◌, ◌<◌, List, [], ◌∷◌, length, get_or, drop, set, sym, refl, ap, ◌∙◌, subst, arith}
+use Rattle.std.proofs.Common.{ℕ, ◌+◌, ◌<◌, get_or, set, sym, refl, subst, arith}
 use Rattle.plan.specs.Plans.{need}
 use Rattle.plan.specs.Refusals.{Outcome}
-use Rattle.plan.specs.declared.check.Plan.{Plan}
 use Rattle.plan.specs.declared.check.ShelfType.TheVariants.{Flag}
 use Rattle.shelf.specs.Calls.{Call, Take, Put, Check, Drop, Look, Turn, tests_of, leaves, state_after, after}
 use Rattle.shelf.proofs.Passing.{Passed, Ways, all_pass, one_refuses, ways}

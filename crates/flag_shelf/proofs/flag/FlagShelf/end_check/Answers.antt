@@ -1,4 +1,4 @@
-use Rattle.std.proofs.Common.{vec_items, refl, arith}
+use Rattle.std.proofs.Common.{refl, arith}
 use Rattle.flag_rules.specs.declared.parts.Job.TheVariants.{Checking}
 use Rattle.flag_shelf.proofs.Fit.{party_there, job_there, turn_kept}
 use Rattle.flag_shelf.proofs.flag.FlagShelf.end_check.Goals as goal

@@ -1,8 +1,7 @@
-use Rattle.std.proofs.Common.{◌≡◌, ◌<◌, map, vec_items, refl, ap, ◌∙◌, arith}
+use Rattle.std.proofs.Common.{map, refl, ap, ◌∙◌, arith}
 use Rattle.std.proofs.lemmas.List.{with_items_is}
 use Rattle.flag_rules.specs.declared.parts.Job.TheVariants.{Putting}
-use Rattle.flag_rules.specs.Flags.{break_mark, put_by, put_answer}
-use Rattle.flag_shelf.specs.States.{flag_state}
+use Rattle.flag_rules.specs.Flags.{break_mark}
 use Rattle.flag_shelf.proofs.Fit.{party_there, job_there, turn_kept, missed_is, stored_is}
 use Rattle.flag_shelf.proofs.flag.FlagShelf.end_put.Goals as goal
 

@@ -1,4 +1,4 @@
-use Rattle.std.proofs.Common.{get_or, vec_items, refl, ap, ◌∙◌, arith}
+use Rattle.std.proofs.Common.{get_or, refl, ap, ◌∙◌, arith}
 use Rattle.flag_rules.specs.declared.parts.Job.TheVariants.{Taking}
 use Rattle.flag_shelf.proofs.Fit.{party_there, job_there, mark_there, block_small, job_fits, turn_kept, taken_is}
 use Rattle.flag_shelf.proofs.flag.FlagShelf.end_take.Goals as goal

@@ -1,6 +1,4 @@
-use Rattle.std.proofs.Common.{◌≡◌, ℕ, min, ◌++◌, length, drop, replicate, vec_items, refl, sym, ap, ◌∙◌, subst}
-use Rattle.plan.specs.Plans.{width, need}
-use Rattle.plan.specs.declared.check.Plan.{Plan}
+use Rattle.std.proofs.Common.{◌≡◌, ℕ, min, ◌++◌, length, drop, replicate, vec_items, ap, ◌∙◌, subst}
 use Rattle.plan.specs.declared.check.ShelfType.TheVariants.{Flag}
 use Rattle.shelf.proofs.Ranges.{Chosen, plan_chosen}
 use Rattle.flag_rules.specs.declared.parts.Mark.TheVariants.{Empty}

@@ -1,4 +1,4 @@
-use Rattle.std.proofs.Common.{[], vec_items, arith}
+use Rattle.std.proofs.Common.{[], arith}
 use Rattle.flag_shelf.specs.States.{flag_state}
 use Rattle.flag_shelf.proofs.Fit.{mark_there, there, own, drop_kept}
 use Rattle.flag_shelf.proofs.flag_shelf.FlagShelfShelf.drop_link.Goals as goal

@@ -1,4 +1,4 @@
-use Rattle.std.proofs.Common.{◌+◌, [], ◌∷◌, get_or, vec_items, ap, ◌∙◌, arith}
+use Rattle.std.proofs.Common.{◌+◌, [], ◌∷◌, get_or, ap, ◌∙◌, arith}
 use Rattle.shelf.specs.Calls.{full}
 use Rattle.flag_rules.specs.Means.{means}
 use Rattle.flag_shelf.specs.States.{flag_state}

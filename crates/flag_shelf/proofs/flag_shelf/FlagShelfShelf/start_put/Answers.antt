@@ -1,4 +1,4 @@
-use Rattle.std.proofs.Common.{[], ◌∷◌, vec_items, ap, ◌∙◌, arith}
+use Rattle.std.proofs.Common.{[], ◌∷◌, ap, ◌∙◌, arith}
 use Rattle.std.proofs.lemmas.Result.{err_from_is_err_and}
 use Rattle.plan.specs.Refusals.{refused, refusal_number, told}
 use Rattle.plan.specs.declared.refusal.Refusal.{Refusal}

@@ -1,6 +1,5 @@
 use Rattle.std.proofs.Common.{refl}
 use Rattle.flag_rules.specs.declared.parts.Job.TheVariants.{Taking, Putting, Checking}
-use Rattle.flag_shelf.specs.States.{flag_state}
 use Rattle.flag_shelf.proofs.Fit.{idle_refused, idle_stays, turn_answered, turn_done}
 use Rattle.flag_shelf.proofs.flag_shelf.FlagShelfShelf.turn.Goals as goal
 
