@@ -1,12 +1,11 @@
 -- Every block of the need has one place.
-use Rattle.std.proofs.Common.{◌≡◌, ℕ, suc, ◌+◌, ◌<◌, ◌≤◌, Bool, true, false, cond, ◌||◌, eqb, ◌⊎◌, List, [], ◌∷◌, length, get_or, sum_by, sym, refl, ap, subst, inl, inr, ⊎_elim, arith}
+use Rattle.std.proofs.Common.{◌≡◌, ℕ, suc, ◌+◌, ◌<◌, ◌≤◌, Bool, true, false, cond, ◌||◌, eqb, ◌⊎◌, List, [], ◌∷◌, length, get_or, sum_by, sym, refl, ap, subst, inl, inr, ⊎_elim, arith, Some}
 use Rattle.std.proofs.lemmas.List.Sums.{sum_by-cons, get_or-le-sum_by}
 use Rattle.std.proofs.lemmas.Bool.{eqb-true, eqb-false, cases_eq, cases_lt, lt-ltb, false≢true, true≢false}
 use Rattle.std.proofs.lemmas.Bool.Decides.{nat_tests}
 use Rattle.plan.specs.Plans.{width, need}
 use Rattle.plan.specs.declared.check.ShelfType.TheVariants.{Block}
 use Rattle.shelf.specs.Calls.{known}
-use Rattle.block_rules.specs.declared.parts.Hold.TheVariants.{On}
 use Rattle.block_rules.specs.declared.parts.Job.{Job}
 use Rattle.block_rules.specs.declared.parts.Job.TheVariants.{Idle, Taking, Putting, Scanning, Checking}
 use Rattle.block_rules.specs.declared.parts.Place.{Place}
@@ -156,7 +155,7 @@ placed s ok = record {
 }
 
 -- what a link holds nobody has ready or in hand
-pub safe : {R : Type 0} (s : State R) → Sound s → (j c : ℕ) → j < width s.plan → (link s j).hold ≡ On c → Safe s j
+pub safe : {R : Type 0} (s : State R) → Sound s → (j c : ℕ) → j < width s.plan → (link s j).hold ≡ Some c → Safe s j
 safe s ok j c h e =
     let o = ok.held j h c e in
     let b = (link s j).seen in

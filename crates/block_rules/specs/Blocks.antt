@@ -1,14 +1,12 @@
 -- The exact rules of the block shelf: its state, and what each accepted call makes of it.
 -- A link is given by its number among the links of all parties; the guards in the order of a scan are the links in list order.
-use Rattle.std.specs.Prelude.{ℕ, zero, suc, ◌+◌, Bool, true, false, cond, not, ◌||◌, List, [], ◌∷◌, ◌++◌, reverse, length, drop, replicate, Some, None, filter, Option, ◌==◌, nat_lt, slice_index, slice_index_or, slice_set}
+use Rattle.std.specs.Prelude.{ℕ, zero, suc, ◌+◌, Bool, true, false, cond, not, ◌||◌, List, [], ◌∷◌, ◌++◌, reverse, length, drop, replicate, Some, None, filter, Option, ◌==◌, nat_lt, slice_index, slice_index_or, slice_set, is_some, unwrap_or}
 use Rattle.plan.specs.Plans.{width, need, plan_verdict}
 use Rattle.plan.specs.Refusals.{Outcome, accepted, refused}
 use Rattle.plan.specs.declared.check.Plan.{Plan}
 use Rattle.plan.specs.declared.check.ShelfType.TheVariants.{Block}
 use Rattle.shelf.specs.declared.answer.Answer.{Answer}
 use Rattle.shelf.specs.declared.answer.Answer.TheVariants as answers
-use Rattle.block_rules.specs.declared.parts.Hold.{Hold}
-use Rattle.block_rules.specs.declared.parts.Hold.TheVariants.{Empty, On}
 use Rattle.block_rules.specs.declared.parts.LinkState.{LinkState}
 use Rattle.block_rules.specs.declared.parts.Access.{Access}
 use Rattle.block_rules.specs.declared.parts.Access.TheVariants.{ReadCurrent, SetGuard, Compare, ReadBlock}
@@ -45,7 +43,7 @@ abbrev pub state_of : {R : Type 0} → Plan → List R → List ℕ → List Lin
 state_of plan row current links parties = record { plan = plan; row = row; current = current; links = links; parties = parties }
 
 abbrev pub unused : LinkState
-unused = record { seen = 0; guard = None; hold = Empty }
+unused = record { seen = 0; guard = None; hold = None }
 
 abbrev pub nobody : Party
 nobody = record { ready = []; retired = []; read = []; job = Idle }
@@ -99,7 +97,7 @@ abbrev pub with_both : {R : Type 0} → State R → ℕ → LinkState → ℕ �
 with_both s j l p q = state_of s.plan s.row s.current (slice_set s.links j l) (slice_set s.parties p q)
 
 abbrev pub emptied : LinkState → LinkState
-emptied l = record { seen = l.seen; guard = None; hold = Empty }
+emptied l = record { seen = l.seen; guard = None; hold = None }
 
 abbrev pub seeing : LinkState → ℕ → LinkState
 seeing l b = record { seen = b; guard = l.guard; hold = l.hold }
@@ -108,15 +106,13 @@ abbrev pub guarding : LinkState → LinkState
 guarding l = record { seen = l.seen; guard = Some l.seen; hold = l.hold }
 
 abbrev pub holding : LinkState → ℕ → LinkState
-holding l c = record { seen = l.seen; guard = l.guard; hold = On c }
+holding l c = record { seen = l.seen; guard = l.guard; hold = Some c }
 
-abbrev pub channel_held : Hold → ℕ
-channel_held Empty = 0
-channel_held (On c) = c
+abbrev pub channel_held : Option ℕ → ℕ
+channel_held hold = unwrap_or hold 0
 
-abbrev pub is_held : Hold → Bool
-is_held Empty = false
-is_held (On c) = true
+abbrev pub is_held : Option ℕ → Bool
+is_held hold = is_some hold
 
 abbrev pub rests : Job → Bool
 rests Idle = true

@@ -1,5 +1,5 @@
 -- The calls that start an operation, drop a link or look at one: what their tests tell, and the state then.
-use Rattle.std.proofs.Common.{◌≡◌, ℕ, ◌<◌, false, ◌≢◌, List, [], ◌∷◌, ◌++◌, map, get_or, set, Err, Result, sym, refl, ap, ◌∙◌, subst}
+use Rattle.std.proofs.Common.{◌≡◌, ℕ, ◌<◌, false, ◌≢◌, List, [], ◌∷◌, ◌++◌, map, get_or, set, Err, Result, sym, refl, ap, ◌∙◌, subst, Some}
 use Rattle.std.specs.List.{AllByRecursion}
 use Rattle.std.proofs.lemmas.Bool.{lt-ltb, true≢false}
 use Rattle.plan.specs.Plans.{width}
@@ -14,7 +14,6 @@ use Rattle.shelf.proofs.Granted.{free_passed, number_is, party_in, idle_there, l
 use Rattle.plan.specs.declared.refusal.Refusal.{Refusal}
 use Rattle.block_parts.specs.declared.seat.Seat.{Seat}
 use Rattle.block_parts.specs.Seats.{party_of}
-use Rattle.block_rules.specs.declared.parts.Hold.TheVariants.{On}
 use Rattle.block_rules.specs.declared.parts.LinkState.{LinkState}
 use Rattle.block_rules.specs.declared.parts.Access.TheVariants.{ReadCurrent}
 use Rattle.block_rules.specs.declared.parts.Job.{Job}
@@ -88,7 +87,7 @@ module _ {R : Type 0} (d : R) (pl : Plan) (row : List R) (current : List ℕ) (l
     rests_held : (party s p).job ≡ Idle
     rests_held = idle_from d s p (idle_there pl m p i j (full pl m p i ∷ []) e)
 
-    on : (c : ℕ) × ((link s j).hold ≡ On c)
+    on : (c : ℕ) × ((link s j).hold ≡ Some c)
     on = on_from d s j (link_full pl m p i j e)
 
     held_passed : AllByRecursion Passed (known pl m p ∷ free pl m p ∷ has_link pl m i ∷ full pl m p i ∷ [])

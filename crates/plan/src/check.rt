@@ -22,7 +22,7 @@ impl fmt::Display for ShelfType {
 }
 
 /// The sizes of a hub: N parties, K links for each party, C channels.
-#[derive(Clone, Copy, PartialEq, Eq, Debug)]
+#[derive(Clone, Copy, PartialEq, Eq, Debug, Default)]
 pub struct Plan {
     pub parties: u8,
     pub links: u8,

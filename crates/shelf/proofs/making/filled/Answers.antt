@@ -1,8 +1,0 @@
-use Rattle.std.proofs.Common.{List, [], ◌∷◌, ◌++◌, ap, ◌∙◌}
-use Rattle.std.proofs.lemmas.List.{replicate_more}
-use Rattle.shelf.proofs.making.filled.Goals as goal
-
-pub loop-i-preserved : goal.loop-i-preserved
-loop-i-preserved g c =
-    c.in_ok-push.ensures.items
-    ∙ (ap (λ (xs : List g.row.T.Denot). xs ++ (c.args.x ∷ [])) c.loop-i.invariant ∙ replicate_more c.loop-i._i c.args.x)
