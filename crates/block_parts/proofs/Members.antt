@@ -1,30 +1,27 @@
--- Whether a block stands in a list, as a walk over the list finds out; and what a walk that sorts blocks gives.
-use Rattle.std.proofs.Common.{◌≡◌, ℕ, ◌+◌, ◌<◌, ◌≤◌, Bool, true, false, ◌||◌, eqb, List, [], ◌∷◌, ◌++◌, reverse, length, get_or, take, sym, refl, ap, ◌∙◌, subst, arith}
-use Rattle.std.proofs.lemmas.List.{take_more}
-use Rattle.std.proofs.lemmas.Bool.{ne_eqb}
+-- Whether a block stands in a list.
+use Rattle.std.proofs.Common.{◌≡◌, ℕ, ◌+◌, ◌<◌, ◌≤◌, Bool, true, false, ◌||◌, eqb, List, [], ◌∷◌, ◌++◌, reverse, length, sym, refl, ap, ◌∙◌, subst, arith}
+use Rattle.std.specs.List.{list_any}
+use Rattle.std.proofs.lemmas.Bool.{eq-eqb, ne_eqb, eqb-true, eqb-false}
 use Rattle.block_rules.specs.Blocks.{among}
 use Rattle.block_rules.specs.Counting.{times}
-use Rattle.block_rules.proofs.Counts.{times_reverse, times_at, among_times}
+use Rattle.block_rules.proofs.Counts.{times_reverse, among_times}
 use Rattle.block_rules.proofs.Placed.{among_yes, among_not}
 
-pub among_at : (b : ℕ) (xs : List ℕ) (i : ℕ) → i < length xs → get_or xs i 0 ≡ b → true ≡ among b xs
-among_at b xs i h e = sym (among_times b xs (subst (λ (x : ℕ). 1 ≤ times x xs) e (times_at xs i h)))
-
-among_append : (b : ℕ) (xs ys : List ℕ) → among b (xs ++ ys) ≡ (among b xs || among b ys)
-among_append b [] ys = refl
-among_append b (x ∷ xs) ys = go (eqb b x) (among_append b xs ys)
+eqb_flip : (a b : ℕ) → eqb a b ≡ eqb b a
+eqb_flip a b = go (eqb b a) refl
   where
-    go : (t : Bool) → among b (xs ++ ys) ≡ (among b xs || among b ys) → (t || among b (xs ++ ys)) ≡ ((t || among b xs) || among b ys)
-    go true e = refl
-    go false e = e
+    go : (t : Bool) → eqb b a ≡ t → eqb a b ≡ t
+    go true e = eq-eqb a b (sym (eqb-true b a e))
+    go false e = ne_eqb a b (λ k. eqb-false b a e (sym k))
 
--- one element more that is another block
-pub among_more : (b : ℕ) (xs : List ℕ) (i : ℕ) → i < length xs → among b (take i xs) ≡ false → (get_or xs i 0 ≡ b → ⊥) → among b (take (i + 1) xs) ≡ false
-among_more b xs i h e n =
-    ap (among b) (take_more xs i 0 h)
-    ∙ (among_append b (take i xs) (get_or xs i 0 ∷ [])
-    ∙ (ap (λ (t : Bool). t || (eqb b (get_or xs i 0) || false)) e
-    ∙ ap (λ (t : Bool). t || false) (ne_eqb b (get_or xs i 0) (λ k. n (sym k)))))
+-- the slice's own search asks of each element whether it is the block, and not the other way round
+among_any : (b : ℕ) (xs : List ℕ) → list_any (λ y. eqb y b) xs ≡ among b xs
+among_any b [] = refl
+among_any b (x ∷ xs) = ap (λ t. t || list_any (λ y. eqb y b) xs) (eqb_flip x b) ∙ ap (λ t. eqb b x || t) (among_any b xs)
+
+-- what that search answered of a list
+pub searched : (b : ℕ) (xs ys : List ℕ) (t u : Bool) → t ≡ u → t ≡ list_any (λ y. eqb y b) xs → xs ≡ ys → u ≡ among b ys
+searched b xs ys t u e f g = sym e ∙ (f ∙ (among_any b xs ∙ ap (among b) g))
 
 -- a stack has the blocks of its list
 pub among_reverse : (b : ℕ) (xs : List ℕ) → among b (reverse xs) ≡ among b xs

@@ -1,7 +1,6 @@
 -- The place that a seat tells is one where the block stands; and if it tells none, the block does not stand with the party.
-use Rattle.std.proofs.Common.{◌≡◌, ℕ, ◌<◌, Bool, true, false, cond, reverse, Some, None, sym, refl, ap, ◌∙◌, subst, arith}
+use Rattle.std.proofs.Common.{◌≡◌, ℕ, ◌<◌, Bool, true, false, cond, if◌then◌else◌, eqb, reverse, Some, None, sym, refl, ap, ◌∙◌, subst, arith}
 use Rattle.block_parts.specs.declared.seat.Seat.{Seat}
-use Rattle.block_parts.specs.Lists.{blocks_in}
 use Rattle.block_parts.specs.Seats.{party_of, place_with}
 use Rattle.block_rules.specs.declared.parts.Place.{Place}
 use Rattle.block_rules.specs.declared.parts.Place.TheVariants.{Ready, Retired, InHand}
@@ -33,9 +32,6 @@ module _ {R : Type 0} (s : State R) (p b : ℕ) where
       by false f false g false h k = omega (arith, among_not b (party s p).ready f, among_not b (party s p).retired g, among_not b (in_hand (party s p).job) h)
 
 -- the place by the three searches of a seat
-pub place_by : (q : Seat) (p b : ℕ) (t u v : Bool) → t ≡ among b (blocks_in q.ready) → u ≡ among b (blocks_in q.retired) → v ≡ among b (in_hand q.job)
-    → cond t (Some (Ready p)) (cond u (Some (Retired p)) (cond v (Some (InHand p)) None)) ≡ place_with (party_of q) p b
-place_by q p b t u v f g h =
-    ap (λ (x : Bool). cond x (Some (Ready p)) (cond u (Some (Retired p)) (cond v (Some (InHand p)) None))) (f ∙ sym (among_reverse b (blocks_in q.ready)))
-    ∙ (ap (λ (x : Bool). cond (among b (reverse (blocks_in q.ready))) (Some (Ready p)) (cond x (Some (Retired p)) (cond v (Some (InHand p)) None))) g
-    ∙ ap (λ (x : Bool). cond (among b (reverse (blocks_in q.ready))) (Some (Ready p)) (cond (among b (blocks_in q.retired)) (Some (Retired p)) (cond x (Some (InHand p)) None))) h)
+pub place_by : (q : Seat) (p b : ℕ) (t u v : Bool) → t ≡ among b q.ready.items → u ≡ among b q.retired.items → v ≡ among b (in_hand q.job)
+    → (if t then Some (Ready p) else if u then Some (Retired p) else if v then Some (InHand p) else None) ≡ place_with (party_of q) p b
+place_by q p b t u v f g h = rw (f ∙ sym (among_reverse b q.ready.items), g, h) refl

@@ -1,6 +1,7 @@
 -- The exact rules of the block shelf: its state, and what each accepted call makes of it.
 -- A link is given by its number among the links of all parties; the guards in the order of a scan are the links in list order.
 use Rattle.std.specs.Prelude.{ℕ, zero, suc, ◌+◌, Bool, true, false, cond, not, ◌||◌, List, [], ◌∷◌, ◌++◌, reverse, length, drop, replicate, Some, None, filter, Option, ◌==◌, nat_lt, slice_index, slice_index_or, slice_set, is_some, unwrap_or}
+use Rattle.std.specs.List.{range_with_len}
 use Rattle.plan.specs.Plans.{width, need, plan_verdict}
 use Rattle.plan.specs.Refusals.{Outcome, accepted, refused}
 use Rattle.plan.specs.declared.check.Plan.{Plan}
@@ -59,9 +60,9 @@ current_of s c = slice_index s.current c
 
 -- ** the making
 
+-- the n blocks from a on
 abbrev pub blocks_from : ℕ → ℕ → List ℕ
-blocks_from a zero = []
-blocks_from a (suc n) = a ∷ blocks_from (a + 1) n
+blocks_from a n = range_with_len a n
 
 -- a party that owns the m blocks from a on, all ready, the lowest on top
 abbrev pub fresh_party : ℕ → ℕ → Party

@@ -13,6 +13,8 @@ use Rattle.shelf.proofs.Passing.{Passed, passes, refused_more}
 use Rattle.shelf.proofs.Granted.{free_passed, number_is, party_in, idle_there, link_own, link_full, granted_by, after_by, turn_passes, idle_answer, idle_state, busy_answer}
 use Rattle.plan.specs.declared.refusal.Refusal.{Refusal}
 use Rattle.block_parts.specs.declared.seat.Seat.{Seat}
+use Rattle.block_shelf.specs.declared.block.BlockShelf.{BlockShelf}
+use Rattle.block_shelf.specs.States.{block_state}
 use Rattle.block_parts.specs.Seats.{party_of}
 use Rattle.block_rules.specs.declared.parts.LinkState.{LinkState}
 use Rattle.block_rules.specs.declared.parts.Access.TheVariants.{ReadCurrent}
@@ -25,15 +27,30 @@ use Rattle.block_rules.proofs.AsShelf.{activity_is, link_is, rests_is, idle_from
 use Rattle.block_rules.proofs.Steps.{sound_take, sound_check, sound_put, sound_drop}
 use Rattle.block_shelf.proofs.Fit.{now_sound}
 
-module _ {R : Type 0} (d : R) (pl : Plan) (row : List R) (current : List ℕ) (links : List LinkState) (seats : List Seat) (squashed : ∥ Sound (state_of pl row current links (map party_of seats)) ∥₁) where
+module _ {R : Type 0} (d : R) (v : BlockShelf R) where
+  abbrev pl : Plan
+  pl = v.plan
+
+  abbrev row : List R
+  row = v.row.blocks.now
+
+  abbrev current : List ℕ
+  current = v.current.items
+
+  abbrev links : List LinkState
+  links = v.links.items
+
+  abbrev seats : List Seat
+  seats = v.seats.items
+
   abbrev s : State R
-  s = state_of pl row current links (map party_of seats)
+  s = block_state v
 
   abbrev m : Meaning R
   m = means d s
 
   ok : Sound s
-  ok = now_sound pl row current links seats squashed
+  ok = now_sound v
 
   -- a free link
   module _ (p i j : ℕ) (us : List Test) (e : accepted j ≡ unless_refused (known pl m p ∷ free pl m p ∷ has_link pl m i ∷ us) (flat pl p i)) where

@@ -35,9 +35,9 @@ impl<'a, R: Reading> BlockShelf<'a, R> {
     fn channel_with(&self, block: u16) -> Option<u8>
         ensures { ChannelTold (block_state self.now) block result }
     {
-        for channel in 0..self.plan.channels {
-            if self.current(channel) == block {
-                return Some(channel);
+        for (channel, current) in self.current.iter().enumerate() {
+            if *current == block {
+                return Some(channel as u8);
             }
         }
         None
@@ -47,8 +47,8 @@ impl<'a, R: Reading> BlockShelf<'a, R> {
     fn place_with_party(&self, block: u16) -> Option<Place>
         ensures { PartyTold (block_state self.now) block result }
     {
-        for party in 0..self.plan.parties {
-            if let Some(place) = self.seats[party as usize].place_of(party, block) {
+        for (party, seat) in self.seats.iter().enumerate() {
+            if let Some(place) = seat.place_of(party as u8, block) {
                 return Some(place);
             }
         }
