@@ -8,7 +8,6 @@ use Rattle.block_rules.specs.Blocks.{in_hand, State, party, among}
 use Rattle.block_rules.specs.Counting.{stands_with}
 use Rattle.block_rules.specs.Places.{StandsAt}
 use Rattle.block_rules.proofs.Placed.{among_yes, among_not}
-use Rattle.block_parts.proofs.Members.{among_reverse}
 
 module _ {R : Type 0} (s : State R) (p b : ℕ) where
   pub told_stands : p < s.plan.parties → (x : Place) → Some x ≡ place_with (party s p) p b → StandsAt s b x
@@ -30,8 +29,3 @@ module _ {R : Type 0} (s : State R) (p b : ℕ) where
       by false f true g v h k = let z : ◌≡◌ {A = ℕ} 0 1 = cc in absurd (omega arith)
       by false f false g true h k = let z : ◌≡◌ {A = ℕ} 0 1 = cc in absurd (omega arith)
       by false f false g false h k = omega (arith, among_not b (party s p).ready f, among_not b (party s p).retired g, among_not b (in_hand (party s p).job) h)
-
--- the place by the three searches of a seat
-pub place_by : (q : Seat) (p b : ℕ) (t u v : Bool) → t ≡ among b q.ready.items → u ≡ among b q.retired.items → v ≡ among b (in_hand q.job)
-    → (if t then Some (Ready p) else if u then Some (Retired p) else if v then Some (InHand p) else None) ≡ place_with (party_of q) p b
-place_by q p b t u v f g h = rw (f ∙ sym (among_reverse b q.ready.items), g, h) refl

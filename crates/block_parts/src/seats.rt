@@ -60,6 +60,7 @@ impl Seat {
         self.job = Job::Idle;
     }
 
+    #[tactic(auto, using(crate::proofs::Members::among_reverse))]
     /// Where a block stands with this party, whose number is given, if it does.
     pub fn place_of(&self, party: u8, block: u16) -> Option<Place>
         ensures { result ≡ place_with (party_of self.now) party block }
@@ -70,18 +71,11 @@ impl Seat {
         if self.retired.contains(&block) {
             return Some(Place::Retired(party));
         }
-        if has_in_hand(self.job, block) {
+        if matches!(self.job, Job::Putting(_, hand) if hand == block) {
             return Some(Place::InHand(party));
         }
         None
     }
-}
-
-// Whether a party with this job has the block in hand.
-fn has_in_hand(job: Job, block: u16) -> bool
-    ensures { result ≡ among block (in_hand job) }
-{
-    matches!(job, Job::Putting(_, hand) if hand == block)
 }
 
 // Notes the block of a guard, if it has one.

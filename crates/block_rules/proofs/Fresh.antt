@@ -11,7 +11,7 @@ use Rattle.block_rules.specs.Blocks.{share, Party, in_hand, unused, nobody, bloc
 use Rattle.block_rules.specs.Counting.{same, times, stands_with, standings, below}
 use Rattle.block_rules.specs.Sound.{JobOk, Sound}
 use Rattle.block_rules.proofs.Counts.{times_nil, times_cons}
-use Rattle.block_rules.proofs.Steps.{empty_not_on}
+use Rattle.block_rules.proofs.Steps.{none_not_some}
 
 pub length_blocks : (a n : ℕ) → length (blocks_from a n) ≡ n
 length_blocks a zero = refl
@@ -57,7 +57,7 @@ fresh_sound pl row small h = record {
   links = length-replicate (width pl) unused;
   parties = length_seats pl.channels (share pl) pl.parties;
   once = λ b. omega (arith, times_blocks b 0 pl.channels, below_zero b, ap (below b) (zero_plus pl.channels), sum_seats b pl.channels (share pl) pl.parties);
-  held = λ j k c e. absurd (empty_not_on c (sym (ap (λ l. l.hold) (get_or-replicate (width pl) j unused unused k)) ∙ e));
+  held = λ j k c e. absurd (none_not_some c (sym (ap (λ l. l.hold) (get_or-replicate (width pl) j unused unused k)) ∙ e));
   jobs = λ p k. let q = get_or (fresh_parties pl.channels (share pl) pl.parties) p nobody in let n = new_seat pl.channels (share pl) pl.parties p k in record {
     size = omega (arith, n.ready, n.retired, ap (λ x. length (in_hand x)) n.job);
     task = subst (JobOk (fresh pl row) p q) (sym n.job) (omega (arith, n.ready));

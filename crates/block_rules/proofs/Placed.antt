@@ -19,19 +19,19 @@ use Rattle.block_rules.proofs.Frame.{current_not_with, once_with, free_with_lem,
 
 pub among_yes : (b : ℕ) (xs : List ℕ) → among b xs ≡ true → 1 ≤ times b xs
 among_yes b [] e = absurd (false≢true e)
-among_yes b (x ∷ xs) e = go (eqb b x) refl e (among_yes b xs)
+among_yes b (x ∷ xs) e = go (eqb x b) refl e (among_yes b xs)
   where
-    go : (t : Bool) → eqb b x ≡ t → (t || among b xs) ≡ true → (among b xs ≡ true → 1 ≤ times b xs) → 1 ≤ times b (x ∷ xs)
-    go true k _ ih = omega (arith, times_cons b x xs, ap (same b) (eqb-true b x k), same_self b)
+    go : (t : Bool) → eqb x b ≡ t → (t || among b xs) ≡ true → (among b xs ≡ true → 1 ≤ times b xs) → 1 ≤ times b (x ∷ xs)
+    go true k _ ih = omega (arith, times_cons b x xs, ap (same b) (eqb-true x b k), same_self b)
     go false k h ih = omega (arith, times_cons b x xs, ih h)
 
 pub among_not : (b : ℕ) (xs : List ℕ) → among b xs ≡ false → times b xs ≡ 0
 among_not b [] e = times_nil b
-among_not b (x ∷ xs) e = go (eqb b x) refl e (among_not b xs)
+among_not b (x ∷ xs) e = go (eqb x b) refl e (among_not b xs)
   where
-    go : (t : Bool) → eqb b x ≡ t → (t || among b xs) ≡ false → (among b xs ≡ false → times b xs ≡ 0) → times b (x ∷ xs) ≡ 0
+    go : (t : Bool) → eqb x b ≡ t → (t || among b xs) ≡ false → (among b xs ≡ false → times b xs ≡ 0) → times b (x ∷ xs) ≡ 0
     go true k h ih = absurd (true≢false h)
-    go false k h ih = omega (arith, times_cons b x xs, ih h, same_other b x (eqb-false b x k))
+    go false k h ih = omega (arith, times_cons b x xs, ih h, same_other b x (λ e. eqb-false x b k (sym e)))
 
 -- a block that stands in a list or with a party is found there
 find_block : (b : ℕ) (xs : List ℕ) → (times b xs ≡ 0) ⊎ ((i : ℕ) × (i < length xs) × (get_or xs i 0 ≡ b))

@@ -23,7 +23,7 @@ use Rattle.block_rules.proofs.AsShelf.{block_shelf_rules}
 use Rattle.block_rules.proofs.Counts.{same_self, times_cons}
 use Rattle.block_rules.proofs.Kept.{turn_same}
 use Rattle.block_rules.proofs.Placed.{placed_known, safe}
-use Rattle.block_rules.proofs.Steps.{empty_not_on}
+use Rattle.block_rules.proofs.Steps.{none_not_some}
 
 module _ {R : Type 0} (d : R) (s : State R) (ok : Sound s) where
   put_writes : (p j : ℕ) (r : R) → p < s.plan.parties → (xs : List ℕ) → (party s p).ready ≡ xs → Writes s p (put_from s p j r xs).row
@@ -55,7 +55,7 @@ module _ {R : Type 0} (d : R) (s : State R) (ok : Sound s) where
   -- a link that holds something is one that is there
   held_within : (j c : ℕ) → (link s j).hold ≡ Some c → j < width s.plan
   held_within j c e = ⊎_elim (λ (h : j < width s.plan). h)
-      (λ (h : width s.plan ≤ j). absurd (empty_not_on c (sym (ap (λ (l : LinkState). l.hold) (get_or_past s.links j unused (omega (arith, h, ok.links)))) ∙ e)))
+      (λ (h : width s.plan ≤ j). absurd (none_not_some c (sym (ap (λ (l : LinkState). l.hold) (get_or_past s.links j unused (omega (arith, h, ok.links)))) ∙ e)))
       (cases_lt j (width s.plan))
 
   pub held_safe : (j c : ℕ) → (link s j).hold ≡ Some c → Safe s j

@@ -1,7 +1,7 @@
 -- The exact rules of the block shelf: its state, and what each accepted call makes of it.
 -- A link is given by its number among the links of all parties; the guards in the order of a scan are the links in list order.
 use Rattle.std.specs.Prelude.{ℕ, zero, suc, ◌+◌, Bool, true, false, cond, not, ◌||◌, List, [], ◌∷◌, ◌++◌, reverse, length, drop, replicate, Some, None, filter, Option, ◌==◌, nat_lt, slice_index, slice_index_or, slice_set, is_some, unwrap_or}
-use Rattle.std.specs.List.{range_with_len}
+use Rattle.std.specs.List.{range_with_len, list_any}
 use Rattle.plan.specs.Plans.{width, need, plan_verdict}
 use Rattle.plan.specs.Refusals.{Outcome, accepted, refused}
 use Rattle.plan.specs.declared.check.Plan.{Plan}
@@ -184,8 +184,7 @@ turn_put s p j h false = with_party s p (missing (party s p) h)
 -- ** a turn of a scan
 
 abbrev pub among : ℕ → List ℕ → Bool
-among b [] = false
-among b (x ∷ xs) = b == x || among b xs
+among b xs = list_any (λ x. x == b) xs
 
 abbrev pub noted : Option ℕ → List ℕ → List ℕ
 noted None read = read

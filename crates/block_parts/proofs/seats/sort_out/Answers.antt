@@ -1,5 +1,5 @@
-use Rattle.std.proofs.Common.{sym, lit<, rules}
-use Rattle.block_parts.proofs.Members.{searched}
+use Rattle.std.proofs.Common.{sym, ap, ◌∙◌, lit<, rules}
+use Rattle.block_rules.specs.Blocks.{among}
 use Rattle.block_parts.proofs.Sorting.{held_room, next_read, next_unread, all_sorted}
 use Rattle.block_parts.proofs.seats.sort_out.Goals as goal
 use Rattle.block_parts.proofs.seats.sort_out.Goals.{then-contains, else-contains}
@@ -10,9 +10,9 @@ push-requires c = (lit< tt, held_room _ _ _ _ _ _ c.loop-block.invariant c.loop-
 pub loop-block-preserved : goal.loop-block-preserved
 loop-block-preserved c = elim c.if-contains.branch [
   | then-contains w ↦ rw (w.ready-is, w.held-is) (next_read _ _ _ _ _ _ c.loop-block.invariant c.loop-block-test.true
-      (sym (searched _ _ _ _ _ w.if-contains.true c.contains.ensures.value c.deref.ensures.0)) _ w.push.ensures.items)
+      (ap (among _) (sym c.deref.ensures.0) ∙ (sym c.contains.ensures.value ∙ w.if-contains.true)) _ w.push.ensures.items)
   | else-contains w ↦ rw (w.ready-is, w.held-is) (next_unread _ _ _ _ _ _ c.loop-block.invariant c.loop-block-test.true
-      (sym (searched _ _ _ _ _ w.if-contains.false c.contains.ensures.value c.deref.ensures.0)) _ (search rules))
+      (ap (among _) (sym c.deref.ensures.0) ∙ (sym c.contains.ensures.value ∙ w.if-contains.false)) _ (search rules))
 ]
 
 pub returns : goal.returns
