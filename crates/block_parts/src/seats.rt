@@ -56,7 +56,7 @@ impl Seat {
             → party_of self.new ≡ freeing (party_of self.old) (noted guard (party_of self.old).read) }
     {
         note(&mut self.read, guard);
-        self.retired = sort_out(&mut self.ready, &self.retired, &self.read);
+        sort_out(&mut self.ready, &mut self.retired, &self.read);
         self.job = Job::Idle;
     }
 
@@ -87,19 +87,17 @@ fn note(read: &mut BlockList, guard: Option<u16>)
     }
 }
 
-// Sorts the retired blocks: those that were not read in a guard go on top of ready, in their order; the others are answered.
-fn sort_out(ready: &mut BlockList, retired: &BlockList, read: &BlockList) -> BlockList
-    ensures freed { length ready.old.items + length retired.now.items ≤ MOST_BLOCKS
-        → ready.new.items ≡ ready.old.items ++ unread read.now.items retired.now.items }
-    ensures kept { result.items ≡ still_held read.now.items retired.now.items }
+// Sorts the retired blocks: those that were not read in a guard go on top of ready, in their order, if there is room;
+// the others stay.
+fn sort_out(ready: &mut BlockList, retired: &mut BlockList, read: &BlockList)
+    ensures freed { length ready.old.items + length retired.old.items ≤ MOST_BLOCKS
+        → ready.new.items ≡ ready.old.items ++ unread read.now.items retired.old.items }
+    ensures kept { retired.new.items ≡ still_held read.now.items retired.old.items }
 {
-    let mut held = BlockList::new();
-    for block in retired.as_slice() {
-        if read.contains(block) {
-            held.push(*block);
-        } else {
-            ready.try_push(*block).ok();
-        }
-    }
-    held
+    let freed = retired
+        .iter()
+        .copied()
+        .filter(|block| !read.contains(block));
+    ready.extend(freed).ok();
+    retired.retain(|block| read.contains(block));
 }

@@ -1,21 +1,16 @@
-use Rattle.std.proofs.Common.{sym, ap, ◌∙◌, lit<, rules}
+use Rattle.std.proofs.Common.{not, rules, tests, arith}
+use Rattle.std.proofs.lemmas.Iterator.{YieldsList-from_slice}
+use Rattle.std.proofs.lemmas.Iterator.Consumers.{YieldsList-from_filter, YieldsList-from_copied, YieldsList-at}
+use Rattle.arrayvec.proofs.ArrayVecLemmas.{filter-from_retain}
 use Rattle.block_rules.specs.Blocks.{among}
-use Rattle.block_parts.proofs.Sorting.{held_room, next_read, next_unread, all_sorted}
+use Rattle.block_parts.proofs.Sorting.{extended, unread_length}
 use Rattle.block_parts.proofs.seats.sort_out.Goals as goal
-use Rattle.block_parts.proofs.seats.sort_out.Goals.{then-contains, else-contains}
 
-pub push-requires : goal.push-requires
-push-requires c = (lit< tt, held_room _ _ _ _ _ _ c.loop-block.invariant c.loop-block-test.true c.as_slice-block-items.ensures.fits)
+pub returns-clause-freed : goal.returns-clause-freed
+returns-clause-freed c fits =
+    extended _ _ c.extend.result c.extend.ensures.ran c.extend.ensures.full c.extend.ensures.one_more (omega (arith, fits, unread_length c.args.read.now.items c.args.retired.now.items))
+    (YieldsList-from_filter _ (λ b. not (among b c.args.read.now.items)) (YieldsList-at c.filter-freed.ensures.source (YieldsList-from_copied (YieldsList-at c.copied.ensures.source (YieldsList-from_slice _ cc))))
+    c.filter-freed.ensures.closure (λ x r q k. search (rules, tests)))
 
-pub loop-block-preserved : goal.loop-block-preserved
-loop-block-preserved c = elim c.if-contains.branch [
-  | then-contains w ↦ rw (w.ready-is, w.held-is) (next_read _ _ _ _ _ _ c.loop-block.invariant c.loop-block-test.true
-      (ap (among _) (sym c.deref.ensures.0) ∙ (sym c.contains.ensures.value ∙ w.if-contains.true)) _ w.push.ensures.items)
-  | else-contains w ↦ rw (w.ready-is, w.held-is) (next_unread _ _ _ _ _ _ c.loop-block.invariant c.loop-block-test.true
-      (ap (among _) (sym c.deref.ensures.0) ∙ (sym c.contains.ensures.value ∙ w.if-contains.false)) _ (search rules))
-]
-
-pub returns : goal.returns
-returns c =
-    let end = all_sorted _ _ _ _ _ _ c.loop-block.invariant c.loop-block-test.false _ c.as_slice-block-items.ensures.value in
-    record { freed = end.0; kept = end.1 }
+pub returns-clause-kept : goal.returns-clause-kept
+returns-clause-kept c = filter-from_retain _ (λ b. among b c.args.read.now.items) _ (λ x b f' y called. search (rules, tests)) _ _ c.retain.ensures.filtered
