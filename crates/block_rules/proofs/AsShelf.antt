@@ -12,7 +12,7 @@ use Rattle.shelf.proofs.Basics.{get_d_mapped}
 use Rattle.block_rules.specs.declared.parts.Access.TheVariants.{ReadCurrent, SetGuard, Compare, ReadBlock}
 use Rattle.block_rules.specs.declared.parts.Job.{Job}
 use Rattle.block_rules.specs.declared.parts.Job.TheVariants.{Idle, Taking, Putting, Scanning, Checking}
-use Rattle.block_rules.specs.Blocks.{Party, State, unused, nobody, link, party, current_of, with_job, emptied, channel_held, is_held, rests, is_live, start_take, start_put, start_check, dropped, after_put, turn_put, turn_job, turned, answer}
+use Rattle.block_rules.specs.Blocks.{Party, State, unused, nobody, link, party, current_of, with_job, emptied, channel_held, rests, is_live, start_take, start_put, start_check, dropped, after_put, turn_put, turn_job, turned, answer}
 use Rattle.block_rules.specs.Sound.{Sound}
 use Rattle.block_rules.specs.Means.{link_of, link_from, activity_in, activity_from, means, turns_left}
 use Rattle.block_rules.proofs.Kept.{turn_same, plan_put}
@@ -53,10 +53,6 @@ module _ {R : Type 0} (d : R) where
   rest_of row (Scanning j k) = refl
   rest_of row (Checking j) = refl
 
-  held_of : (row : List R) (current : List ℕ) (b : ℕ) (l : Option ℕ) → is_held l ≡ not (is_vacant (link_of d row current b l))
-  held_of row current b None = refl
-  held_of row current b (Some c) = refl
-
   -- activity and link in the meaning, also of a party or a link that is not there
   module _ (s : State R) where
     pub activity_is : (p : ℕ) → activity_of (means d s) p ≡ activity_in d s.row (party s p).job
@@ -67,9 +63,6 @@ module _ {R : Type 0} (d : R) where
 
     pub rests_is : (p : ℕ) → rests (party s p).job ≡ is_idle (activity_of (means d s) p)
     rests_is p = rest_of s.row (party s p).job ∙ ap is_idle (sym (activity_is p))
-
-    pub held_is : (j : ℕ) → is_held (link s j).hold ≡ not (is_vacant (link_at (means d s) j))
-    held_is j = held_of s.row s.current (link s j).seen (link s j).hold ∙ ap (λ l. not (is_vacant l)) (sym (link_is j))
 
     pub idle_from : (p : ℕ) → activity_of (means d s) p ≡ idle → (party s p).job ≡ Idle
     idle_from p e = idle_of s.row (party s p).job (sym (activity_is p) ∙ e)

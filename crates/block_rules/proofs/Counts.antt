@@ -14,12 +14,6 @@ same_self b = rw (eq-eqb b b refl)
 pub same_other : (b x : ℕ) → b ≢ x → same b x ≡ 0
 same_other b x h = rw (ne_eqb b x h)
 
-pub same_pos : (b x : ℕ) → 1 ≤ same b x → b ≡ x
-same_pos b x h = grind (arith, nat_tests)
-
-pub same_le : (b x : ℕ) → same b x ≤ 1
-same_le b x = grind (arith, nat_tests)
-
 pub times_nil : (b : ℕ) → times b [] ≡ 0
 unfolding times
 times_nil b = refl

@@ -1,6 +1,6 @@
 -- The exact rules of the block shelf: its state, and what each accepted call makes of it.
 -- A link is given by its number among the links of all parties; the guards in the order of a scan are the links in list order.
-use Rattle.std.specs.Prelude.{ℕ, zero, suc, ◌+◌, Bool, true, false, cond, not, ◌||◌, List, [], ◌∷◌, ◌++◌, reverse, length, drop, replicate, Some, None, filter, Option, ◌==◌, nat_lt, slice_index, slice_index_or, slice_set, is_some, unwrap_or}
+use Rattle.std.specs.Prelude.{ℕ, zero, suc, ◌+◌, Bool, true, false, cond, not, ◌||◌, List, [], ◌∷◌, ◌++◌, reverse, length, drop, replicate, Some, None, filter, Option, ◌==◌, nat_lt, slice_index, slice_index_or, slice_set, unwrap_or}
 use Rattle.std.specs.List.{range_with_len, list_any}
 use Rattle.plan.specs.Plans.{width, need, plan_verdict}
 use Rattle.plan.specs.Refusals.{Outcome, accepted, refused}
@@ -111,9 +111,6 @@ holding l c = record { seen = l.seen; guard = l.guard; hold = Some c }
 
 abbrev pub channel_held : Option ℕ → ℕ
 channel_held hold = unwrap_or hold 0
-
-abbrev pub is_held : Option ℕ → Bool
-is_held hold = is_some hold
 
 abbrev pub rests : Job → Bool
 rests Idle = true

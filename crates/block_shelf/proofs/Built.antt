@@ -62,18 +62,6 @@ all_ready first count b xs inv h =
     let all : first + count - b ≡ count = omega arith in
     inv.1 ∙ (ap (blocks_from b) all ∙ ap (λ x. blocks_from x count) same)
 
--- ** the numbers fit
-
-module _ (pl : Plan) (small : Small pl) (n w : ℕ) (in_n : n < pl.parties) (is : w ≡ width pl) where
-  most : w ≤ 96
-  most = omega (arith, is, mul-le pl.parties pl.links 24 4 small.parties small.links)
-
-  pub seats_fit : pl.channels + n * (w + 1) + (w + 1) < 65536
-  seats_fit = omega (arith, small.channels, most, mul-le n (w + 1) 24 97 (omega (arith, in_n, small.parties)) (omega (arith, most)))
-
-  pub share_fits : w + 1 ≤ 97
-  share_fits = omega (arith, most)
-
 -- ** the whole
 
 unused_is : (l : LinkState) → (l.seen ≡ 0) × ((l.guard ≡ None) × (l.hold ≡ None)) → l ≡ unused

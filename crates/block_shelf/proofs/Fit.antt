@@ -29,9 +29,6 @@ use Rattle.block_rules.proofs.Unique.{sound_out}
 pub seat_is : (seats : List Seat) (p : ℕ) (q : Seat) → q ≡ get_or seats p q → p < length seats → party_of q ≡ get_or (map party_of seats) p nobody
 seat_is seats p q e h = ap party_of e ∙ sym (get_or-map party_of seats p q nobody h)
 
-pub seat_past : (seats : List Seat) (p : ℕ) → length seats ≤ p → get_or (map party_of seats) p nobody ≡ nobody
-seat_past seats p h = get_or_past (map party_of seats) p nobody (omega (arith, length-map seats party_of))
-
 -- a step f of a party, made on its seat
 pub seated : {R : Type 0} (pl : Plan) (row : List R) (current : List ℕ) (links : List LinkState) (seats : List Seat) (p : ℕ) (q q' : Seat) (f : Party → Party)
     → q ≡ get_or seats p q → p < length seats → party_of q' ≡ f (party_of q)
@@ -181,10 +178,6 @@ module _ {R : Type 0} (v : BlockShelf R) where
           ∙ (ap (λ (x : ℕ). state_of pl row (set current (channel_held (link now j).hold) h) links (set (map party_of seats) p (retiring (party now p) j x))) seen
           ∙ ap (turn_put now p j h) (sym live)))
 
-      pub stored_answer : (a : Answer) → a ≡ after_put_answer (party_of q).ready → is_live now j ≡ true → a ≡ cond (is_live now j) (after_put_answer (party now p).ready) Missed
-      stored_answer a k live =
-          k ∙ (ap (λ (x : Party). after_put_answer x.ready) (here put_there) ∙ sym (cond-true (is_live now j) (after_put_answer (party now p).ready) Missed live))
-
     -- a scan that goes on, and one that ends
     module _ (j k : ℕ) (e : (party now p).job ≡ Scanning j k) (guard : Option ℕ) (read : guard ≡ (link now k).guard) where
       scan_there : p < length seats
@@ -219,8 +212,3 @@ module _ {R : Type 0} (v : BlockShelf R) where
       let in_p = at_work p (Putting j h) e refl in
       let o = task_at now now_sound p in_p (Putting j h) e in
       omega (arith, (now_sound.held j (own_below pl p j in_p o.own) (channel_held (link now j).hold) o.held).channel, now_sound.currents)
-
-  -- the guard that a scan reads next
-  pub scan_within : (p j k : ℕ) → (party now p).job ≡ Scanning j k → k + 1 < 2 ^ 64
-  scan_within p j k e =
-      omega (arith, (task_at now now_sound p (at_work p (Scanning j k) e refl) (Scanning j k) e).within, mul-le pl.parties pl.links 24 4 now_sound.small.parties now_sound.small.links)
