@@ -1,6 +1,6 @@
 -- The exact rules of the block shelf: its state, and what each accepted call makes of it.
 -- A link is given by its number among the links of all parties; the guards in the order of a scan are the links in list order.
-use Rattle.std.specs.Prelude.{ℕ, zero, suc, ◌+◌, Bool, true, false, cond, not, ◌||◌, List, [], ◌∷◌, ◌++◌, reverse, length, drop, replicate, Some, None, filter, Option, ◌==◌, nat_lt, slice_index, slice_index_or, slice_set, unwrap_or}
+use Rattle.std.specs.Prelude.{ℕ, zero, suc, ◌+◌, Bool, true, false, if◌then◌else◌, not, List, [], ◌∷◌, ◌++◌, reverse, length, drop, replicate, Some, None, filter, Option, ◌==◌, nat_lt, slice_index, slice_index_or, slice_set, unwrap_or}
 use Rattle.std.specs.List.{range_with_len, list_any}
 use Rattle.plan.specs.Plans.{width, need, plan_verdict}
 use Rattle.plan.specs.Refusals.{Outcome, accepted, refused}
@@ -232,9 +232,9 @@ after_put_answer (b ∷ bs) = answers.Stored
 abbrev pub answer_job : {R : Type 0} → State R → ℕ → Job → Answer
 answer_job s p Idle = answers.Run
 answer_job s p (Taking j c a) = take_answer a
-answer_job s p (Putting j h) = cond (is_live s j) (after_put_answer (party s p).ready) answers.Missed
-answer_job s p (Scanning j k) = cond (nat_lt (k + 1) (width s.plan)) answers.Run answers.Stored
-answer_job s p (Checking j) = cond (is_live s j) answers.Live answers.Broken
+answer_job s p (Putting j h) = if is_live s j then after_put_answer (party s p).ready else answers.Missed
+answer_job s p (Scanning j k) = if nat_lt (k + 1) (width s.plan) then answers.Run else answers.Stored
+answer_job s p (Checking j) = if is_live s j then answers.Live else answers.Broken
 
 abbrev pub answer : {R : Type 0} → State R → ℕ → Answer
 answer s p = answer_job s p (party s p).job

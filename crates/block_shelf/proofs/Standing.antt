@@ -1,5 +1,5 @@
 -- What the place question tells, and the laws of places and of held blocks over every run of calls.
-use Rattle.std.proofs.Common.{◌≡◌, ℕ, ◌+◌, ◌<◌, None, refl, arith}
+use Rattle.std.proofs.Common.{◌≡◌, ℕ, ◌+◌, ◌<◌, List, length, get_or, Some, None, refl, ap, ◌∙◌, arith}
 use Rattle.std.proofs.lemmas.Nat.{mul-le}
 use Rattle.plan.specs.Plans.{width, need}
 use Rattle.plan.specs.Refusals.{accepted, refused}
@@ -8,11 +8,17 @@ use Rattle.shelf.specs.Laws.{after_all}
 use Rattle.shelf.specs.Beyond.{BeyondStays}
 use Rattle.shelf.proofs.Always.{sound_always, beyond_always}
 use Rattle.block_rules.specs.declared.parts.Place.{Place}
-use Rattle.block_rules.specs.Blocks.{State}
-use Rattle.block_rules.specs.Counting.{standings}
+use Rattle.block_rules.specs.Blocks.{Party, State, party}
+use Rattle.block_rules.specs.Counting.{stands_with, standings}
 use Rattle.block_rules.specs.Sound.{Sound}
 use Rattle.block_rules.specs.Places.{StandsAt, PlaceTold}
 use Rattle.block_shelf.specs.Laws.{PlacesStay, HeldBlocksStay, ChannelTold, PartyTold}
+use Rattle.block_parts.specs.declared.seat.Seat.{Seat}
+use Rattle.block_parts.specs.Seats.{party_of, place_with}
+use Rattle.block_parts.proofs.Standing.{told_stands, told_none}
+use Rattle.block_shelf.specs.declared.block.BlockShelf.{BlockShelf}
+use Rattle.block_shelf.specs.States.{block_state}
+use Rattle.block_shelf.proofs.Fit.{seat_in}
 use Rattle.block_rules.proofs.AsShelf.{block_shelf_rules}
 use Rattle.block_rules.proofs.Placed.{none_there, none_with, one_only, placed_known, not_placed, placed}
 use Rattle.block_rules.proofs.Writing.{call_writes, call_untouched, held_safe, call_spares}
@@ -51,3 +57,14 @@ module _ {R : Type 0} (d : R) (s : State R) (ok : Sound s) where
 
   pub beyond_stays : BeyondStays (block_shelf_rules d) (λ t. t.row) (need Block s.plan) s
   beyond_stays = beyond_always (block_shelf_rules d) (λ t. t.row) (need Block) (call_untouched d) s ok
+
+-- a walk over the seats that has come to seat q of party p
+module _ {R : Type 0} (v : BlockShelf R) (p : ℕ) (q : Seat) (items : List Seat) (all : items ≡ v.seats.items) (is : q ≡ get_or items p q) (within : p < length items) (b : ℕ) where
+  here : (p < v.plan.parties) × (party_of q ≡ party (block_state v) p)
+  here = seat_in v p q items all is within
+
+  pub found_here : (x : Place) → Some x ≡ place_with (party_of q) p b → StandsAt (block_state v) b x
+  found_here x e = told_stands (block_state v) p b here.0 x (e ∙ ap (λ (y : Party). place_with y p b) here.1)
+
+  pub not_here : None ≡ place_with (party_of q) p b → stands_with b (party (block_state v) p) ≡ 0
+  not_here e = told_none (block_state v) p b (e ∙ ap (λ (y : Party). place_with y p b) here.1)
