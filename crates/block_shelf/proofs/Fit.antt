@@ -109,24 +109,35 @@ module _ {R : Type 0} (v : BlockShelf R) where
     fits_share =
         omega (arith, ap (λ (x : Job). length (in_hand x)) e, (now_sound.jobs p at_work).size, mul-le pl.parties pl.links 24 4 now_sound.small.parties now_sound.small.links)
 
-  -- ** a take: l is the link that the code made
+  -- ** a take: old is the link that the code read, b the block that it read in the channel, l the link that it made
 
-  module _ (p j c : ℕ) where
-    pub saw_sound : (party now p).job ≡ Taking j c ReadCurrent → (l : LinkState) → l ≡ seeing (link now j) (current_of now c) → Sound (with_both now j l p (with_job (party now p) (Taking j c SetGuard)))
-    saw_sound e l k = subst (λ (x : LinkState). Sound (with_both now j x p (with_job (party now p) (Taking j c SetGuard)))) (sym k) (turn_sound p (Taking j c ReadCurrent) e refl)
+  module _ (p j c : ℕ) (a : Access) (e : (party now p).job ≡ Taking j c a) (old : LinkState) (is : old ≡ link now j) (l : LinkState) where
+    taking : {x : Access} → a ≡ x → (party now p).job ≡ Taking j c x
+    taking at = e ∙ ap (Taking j c) at
 
-    pub guarded_sound : (party now p).job ≡ Taking j c SetGuard → (l : LinkState) → l ≡ guarding (link now j) → Sound (with_both now j l p (with_job (party now p) (Taking j c Compare)))
-    guarded_sound e l k = subst (λ (x : LinkState). Sound (with_both now j x p (with_job (party now p) (Taking j c Compare)))) (sym k) (turn_sound p (Taking j c SetGuard) e refl)
+    pub guarded_sound : a ≡ SetGuard → l ≡ guarding old → Sound (with_both now j l p (with_job (party now p) (Taking j c Compare)))
+    guarded_sound at k =
+        subst (λ (x : LinkState). Sound (with_both now j x p (with_job (party now p) (Taking j c Compare)))) (sym (k ∙ ap guarding is)) (turn_sound p (Taking j c SetGuard) (taking at) refl)
 
-    compared_sound : (party now p).job ≡ Taking j c Compare → (t : Bool) → eqb (current_of now c) (link now j).seen ≡ t → Sound (compared now p j c t)
-    compared_sound e t k = subst (λ (x : Bool). Sound (compared now p j c x)) k (turn_sound p (Taking j c Compare) e refl)
+    module _ (b : ℕ) (read : b ≡ current_of now c) where
+      pub saw_sound : a ≡ ReadCurrent → l ≡ seeing old b → Sound (with_both now j l p (with_job (party now p) (Taking j c SetGuard)))
+      saw_sound at k =
+          subst (λ (x : LinkState). Sound (with_both now j x p (with_job (party now p) (Taking j c SetGuard)))) (sym (k ∙ (ap (λ (x : LinkState). seeing x b) is ∙ ap (seeing (link now j)) read)))
+          (turn_sound p (Taking j c ReadCurrent) (taking at) refl)
 
-    pub held_sound : (party now p).job ≡ Taking j c Compare → current_of now c ≡ (link now j).seen → (l : LinkState) → l ≡ holding (link now j) c → Sound (with_both now j l p (with_job (party now p) (Taking j c ReadBlock)))
-    held_sound e same l k =
-        subst (λ (x : LinkState). Sound (with_both now j x p (with_job (party now p) (Taking j c ReadBlock)))) (sym k) (compared_sound e true (eq-eqb (current_of now c) (link now j).seen same))
+      compared_sound : a ≡ Compare → (t : Bool) → eqb (current_of now c) (link now j).seen ≡ t → Sound (compared now p j c t)
+      compared_sound at t k = subst (λ (x : Bool). Sound (compared now p j c x)) k (turn_sound p (Taking j c Compare) (taking at) refl)
 
-    pub again_sound : (party now p).job ≡ Taking j c Compare → (current_of now c ≡ (link now j).seen → ⊥) → Sound (with_party now p (with_job (party now p) (Taking j c ReadCurrent)))
-    again_sound e apart = compared_sound e false (ne_eqb (current_of now c) (link now j).seen apart)
+      seen_is : old.seen ≡ (link now j).seen
+      seen_is = ap (λ (x : LinkState). x.seen) is
+
+      pub held_sound : a ≡ Compare → b ≡ old.seen → l ≡ holding old c → Sound (with_both now j l p (with_job (party now p) (Taking j c ReadBlock)))
+      held_sound at same k =
+          subst (λ (x : LinkState). Sound (with_both now j x p (with_job (party now p) (Taking j c ReadBlock)))) (sym (k ∙ ap (λ (x : LinkState). holding x c) is))
+          (compared_sound at true (eq-eqb (current_of now c) (link now j).seen (sym read ∙ (same ∙ seen_is))))
+
+      pub again_sound : a ≡ Compare → (b ≡ old.seen → ⊥) → Sound (with_party now p (with_job (party now p) (Taking j c ReadCurrent)))
+      again_sound at apart = compared_sound at false (ne_eqb (current_of now c) (link now j).seen (λ same. apart (read ∙ (same ∙ sym seen_is))))
 
   -- ** a step of a party made by its seat: q before, q' after
 
@@ -162,21 +173,21 @@ module _ {R : Type 0} (v : BlockShelf R) where
       put_there : p < length seats
       put_there = seat_there p (at_work p (Putting j h) e refl)
 
-      pub missed_is : (length (party_of q).ready < 97 → party_of q' ≡ missing (party_of q) h) → is_live now j ≡ false
+      pub missed_is : (length (party_of q).ready < 97 → party_of q' ≡ missing (party_of q) h) → false ≡ is_live now j
           → state_of pl row current links (map party_of (set seats p q')) ≡ turn_put now p j h (is_live now j)
       missed_is step live =
           seated pl row current links seats p q q' (λ (x : Party). missing x h) is put_there
           (step (omega (arith, ap (λ (x : Party). length x.ready) (here put_there), fits_share p (Putting j h) e refl)))
-          ∙ ap (turn_put now p j h) (sym live)
+          ∙ ap (turn_put now p j h) live
 
-      pub stored_is : (c b : ℕ) → c ≡ channel_held (link now j).hold → b ≡ (link now j).seen → (length (party_of q).retired < 97 → party_of q' ≡ retiring (party_of q) j b) → is_live now j ≡ true
+      pub stored_is : (c b : ℕ) → c ≡ channel_held (link now j).hold → b ≡ (link now j).seen → (length (party_of q).retired < 97 → party_of q' ≡ retiring (party_of q) j b) → true ≡ is_live now j
           → state_of pl row (set current c h) links (map party_of (set seats p q')) ≡ turn_put now p j h (is_live now j)
       stored_is c b channel seen step live =
           seated pl row (set current c h) links seats p q q' (λ (x : Party). retiring x j b) is put_there
           (step (omega (arith, ap (λ (x : Party). length x.retired) (here put_there), fits_share p (Putting j h) e refl)))
           ∙ (ap (λ (x : ℕ). state_of pl row (set current x h) links (set (map party_of seats) p (retiring (party now p) j b))) channel
           ∙ (ap (λ (x : ℕ). state_of pl row (set current (channel_held (link now j).hold) h) links (set (map party_of seats) p (retiring (party now p) j x))) seen
-          ∙ ap (turn_put now p j h) (sym live)))
+          ∙ ap (turn_put now p j h) live))
 
     -- a scan that goes on, and one that ends
     module _ (j k : ℕ) (e : (party now p).job ≡ Scanning j k) (guard : Option ℕ) (read : guard ≡ (link now k).guard) where

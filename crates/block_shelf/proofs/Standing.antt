@@ -1,8 +1,10 @@
 -- What the place question tells, and the laws of places and of held blocks over every run of calls.
-use Rattle.std.proofs.Common.{◌≡◌, ℕ, ◌+◌, ◌<◌, List, length, get_or, Some, None, refl, ap, ◌∙◌, arith}
+use Rattle.std.proofs.Common.{◌≡◌, ℕ, ◌+◌, ◌<◌, List, length, get_or, Some, None, Option, refl, ap, ◌∙◌, arith}
+use Rattle.std.specs.Option.{ok_or}
 use Rattle.std.proofs.lemmas.Nat.{mul-le}
 use Rattle.plan.specs.Plans.{width, need}
-use Rattle.plan.specs.Refusals.{accepted, refused}
+use Rattle.plan.specs.Refusals.{accepted, refused, told}
+use Rattle.plan.specs.declared.refusal.Refusal.TheVariants.{NoSuchBlock}
 use Rattle.plan.specs.declared.check.ShelfType.TheVariants.{Block}
 use Rattle.shelf.specs.Laws.{after_all}
 use Rattle.shelf.specs.Beyond.{BeyondStays}
@@ -18,12 +20,18 @@ use Rattle.block_parts.specs.Seats.{party_of, place_with}
 use Rattle.block_parts.proofs.Standing.{told_stands, told_none}
 use Rattle.block_shelf.specs.declared.block.BlockShelf.{BlockShelf}
 use Rattle.block_shelf.specs.States.{block_state}
-use Rattle.block_shelf.proofs.Fit.{seat_in}
+use Rattle.block_shelf.proofs.Fit.{now_sound, seat_in}
 use Rattle.block_rules.proofs.AsShelf.{block_shelf_rules}
 use Rattle.block_rules.proofs.Placed.{none_there, none_with, one_only, placed_known, not_placed, placed}
 use Rattle.block_rules.proofs.Writing.{call_writes, call_untouched, held_safe, call_spares}
 
-module _ {R : Type 0} (s : State R) (ok : Sound s) (b : ℕ) where
+module _ {R : Type 0} (v : BlockShelf R) (b : ℕ) where
+  abbrev s : State R
+  s = block_state v
+
+  ok : Sound s
+  ok = now_sound v
+
   -- a block beyond what a place can be told of
   pub too_large : 65535 < b → PlaceTold s b (refused 10)
   too_large h =
@@ -34,29 +42,34 @@ module _ {R : Type 0} (s : State R) (ok : Sound s) (b : ℕ) where
   told_place x h = (placed_known s ok b x h, one_only s ok b x h)
 
   -- found neither with a channel nor with a party
-  pub told_nowhere : ChannelTold s b None → PartyTold s b None → PlaceTold s b (refused 10)
+  told_nowhere : ChannelTold s b None → PartyTold s b None → PlaceTold s b (refused 10)
   unfolding standings
   told_nowhere channels parties = (not_placed s ok b none, refl)
     where
       none : standings s b ≡ 0
       none = omega (arith, none_there b s.current (λ i h e. channels i (omega (arith, h, ok.currents)) e), none_with b s.parties (λ p h. parties p (omega (arith, h, ok.parties))))
 
-module _ {R : Type 0} (d : R) (s : State R) (ok : Sound s) where
-  pub places_stay : PlacesStay d s
-  places_stay calls = placed (after_all (block_shelf_rules d) s calls) (sound_always (block_shelf_rules d) s ok calls)
+  -- what is told of a block that no channel has
+  pub told_with : ChannelTold s b None → (o : Option Place) → PartyTold s b o → PlaceTold s b (told (ok_or o NoSuchBlock))
+  told_with channels None parties = told_nowhere channels parties
+  told_with channels (Some x) there = told_place x there
 
-  pub held_stay : HeldBlocksStay d s
+module _ {R : Type 0} (d : R) (v : BlockShelf R) where
+  pub places_stay : PlacesStay d (block_state v)
+  places_stay calls = placed (after_all (block_shelf_rules d) (block_state v) calls) (sound_always (block_shelf_rules d) (block_state v) (now_sound v) calls)
+
+  pub held_stay : HeldBlocksStay d (block_state v)
   held_stay calls =
-      let t = after_all (block_shelf_rules d) s calls in
-      let sound = sound_always (block_shelf_rules d) s ok calls in
+      let t = after_all (block_shelf_rules d) (block_state v) calls in
+      let sound = sound_always (block_shelf_rules d) (block_state v) (now_sound v) calls in
       record {
         safe = held_safe d t sound;
         writes = call_writes d t sound;
         unwritten = call_spares d t sound;
       }
 
-  pub beyond_stays : BeyondStays (block_shelf_rules d) (λ t. t.row) (need Block s.plan) s
-  beyond_stays = beyond_always (block_shelf_rules d) (λ t. t.row) (need Block) (call_untouched d) s ok
+  pub beyond_stays : BeyondStays (block_shelf_rules d) (λ t. t.row) (need Block v.plan) (block_state v)
+  beyond_stays = beyond_always (block_shelf_rules d) (λ t. t.row) (need Block) (call_untouched d) (block_state v) (now_sound v)
 
 -- a walk over the seats that has come to seat q of party p
 module _ {R : Type 0} (v : BlockShelf R) (p : ℕ) (q : Seat) (items : List Seat) (all : items ≡ v.seats.items) (is : q ≡ get_or items p q) (within : p < length items) (b : ℕ) where

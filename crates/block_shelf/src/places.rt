@@ -19,16 +19,13 @@ impl<'a, R: Reading> BlockShelf<'a, R> {
     pub fn place(&self, block: usize) -> Result<Place, Refusal>
         ensures { PlaceTold (block_state self.now) block (told result) }
     {
-        if block > 65535 {
+        let Ok(block) = u16::try_from(block) else {
             return Err(Refusal::NoSuchBlock);
-        }
-        if let Some(channel) = self.channel_with(block as u16) {
+        };
+        if let Some(channel) = self.channel_with(block) {
             return Ok(Place::Current(channel));
         }
-        match self.place_with_party(block as u16) {
-            Some(place) => Ok(place),
-            None => Err(Refusal::NoSuchBlock),
-        }
+        self.place_with_party(block).ok_or(Refusal::NoSuchBlock)
     }
 
     // The channel of which the block is the current one.

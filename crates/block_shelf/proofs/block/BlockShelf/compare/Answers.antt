@@ -1,15 +1,12 @@
-use Rattle.std.proofs.Common.{sym, ap, ◌∙◌}
-use Rattle.block_rules.specs.declared.parts.LinkState.{LinkState}
-use Rattle.block_rules.specs.Blocks.{holding}
+use Rattle.std.proofs.Common.{refl}
+use Rattle.block_rules.specs.declared.parts.Access.TheVariants.{Compare}
 use Rattle.block_shelf.proofs.Fit.{held_sound, again_sound}
 use Rattle.block_shelf.proofs.block.BlockShelf.compare.Goals as goal
 
 pub set_link-requires : goal.set_link-requires
 set_link-requires g c =
-    let same = sym c.current.ensures ∙ (c.if-current-link.true ∙ ap (λ (l : LinkState). l.seen) c.link-link.ensures) in
-    held_sound c.args.self.now c.args.party c.args.at c.args.channel c.requires same c.holding.result (c.holding.ensures ∙ ap (λ (l : LinkState). holding l c.args.channel) c.link-link.ensures)
+    held_sound c.args.self.now c.args.party c.args.at c.args.channel Compare c.requires c.link-link.result c.link-link.ensures c.holding.result c.current.result c.current.ensures refl c.if-current-link.true c.holding.ensures
 
 pub set_job-requires : goal.set_job-requires
 set_job-requires g c =
-    again_sound c.args.self.now c.args.party c.args.at c.args.channel c.requires
-    (λ same. c.if-current-link.false (c.current.ensures ∙ (same ∙ sym (ap (λ (l : LinkState). l.seen) c.link-link.ensures))))
+    again_sound c.args.self.now c.args.party c.args.at c.args.channel Compare c.requires c.link-link.result c.link-link.ensures c.link-link.result c.current.result c.current.ensures refl c.if-current-link.false
