@@ -1,5 +1,5 @@
 -- Whether a block stands in a list.
-use Rattle.std.proofs.Common.{◌≡◌, ℕ, ◌+◌, ◌<◌, ◌≤◌, Bool, true, false, ◌||◌, eqb, List, [], ◌∷◌, ◌++◌, reverse, length, sym, refl, ap, ◌∙◌, subst, arith}
+use Rattle.std.proofs.Common.{◌≡◌, ℕ, Bool, true, false, List, reverse, refl, arith}
 use Rattle.block_rules.specs.Blocks.{among}
 use Rattle.block_rules.specs.Counting.{times}
 use Rattle.block_rules.proofs.Counts.{times_reverse, among_times}

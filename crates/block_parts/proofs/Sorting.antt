@@ -1,5 +1,5 @@
 -- What `extend` leaves, if there is room for all that comes.
-use Rattle.std.proofs.Common.{◌≡◌, ℕ, ◌+◌, ◌<◌, ◌≤◌, not, List, ◌++◌, length, Some, Ok, Err, Option, Result, OnErr, MatchResult, sym, refl, ap, arith}
+use Rattle.std.proofs.Common.{◌≡◌, ℕ, ◌+◌, ◌≤◌, not, List, ◌++◌, length, Some, Ok, Err, Option, Result, OnErr, MatchResult, sym, refl, ap, arith}
 use Rattle.std.specs.Iterator.{Yields, Drains, YieldsThen}
 use Rattle.std.proofs.lemmas.List.{length-append}
 use Rattle.std.proofs.lemmas.List.Filters.{length-filter_both}

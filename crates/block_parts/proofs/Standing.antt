@@ -1,7 +1,6 @@
 -- The place that a seat tells is one where the block stands; and if it tells none, the block does not stand with the party.
-use Rattle.std.proofs.Common.{◌≡◌, ℕ, ◌<◌, Bool, true, false, cond, if◌then◌else◌, eqb, reverse, Some, None, sym, refl, ap, ◌∙◌, subst, arith}
-use Rattle.block_parts.specs.declared.seat.Seat.{Seat}
-use Rattle.block_parts.specs.Seats.{party_of, place_with}
+use Rattle.std.proofs.Common.{◌≡◌, ℕ, ◌<◌, Bool, true, false, cond, Some, None, refl, subst, arith}
+use Rattle.block_parts.specs.Seats.{place_with}
 use Rattle.block_rules.specs.declared.parts.Place.{Place}
 use Rattle.block_rules.specs.declared.parts.Place.TheVariants.{Ready, Retired, InHand}
 use Rattle.block_rules.specs.Blocks.{in_hand, State, party, among}

@@ -1,5 +1,5 @@
 -- The block shelf's rules as those of a shelf.
-use Rattle.std.proofs.Common.{◌≡◌, ℕ, ◌<◌, ◌≤◌, Bool, true, not, eqb, ◌≢◌, ◌⊎◌, List, [], ◌∷◌, get_or, sym, refl, ap, ◌∙◌, subst, inl, inr, ⊎_elim, arith, Some, None, Option}
+use Rattle.std.proofs.Common.{◌≡◌, ℕ, ◌<◌, ◌≤◌, Bool, true, eqb, ◌≢◌, ◌⊎◌, List, [], ◌∷◌, get_or, sym, refl, ap, ◌∙◌, subst, inl, inr, ⊎_elim, arith, Some, None, Option}
 use Rattle.std.proofs.lemmas.List.{get_or-set_same, length-map}
 use Rattle.std.proofs.lemmas.Bool.{eq-eqb}
 use Rattle.plan.specs.Plans.{patience}
@@ -7,7 +7,7 @@ use Rattle.plan.specs.declared.check.ShelfType.TheVariants.{Block}
 use Rattle.shelf.specs.declared.answer.Answer.{Answer}
 use Rattle.shelf.specs.Meaning.{vacant, holds, Operation, put, check, Activity, idle, waits, in_force, link_at, activity_of, Sizes, Stores, is_on, take as take_op}
 use Rattle.shelf.specs.Rules.{Rules}
-use Rattle.shelf.specs.Calls.{is_idle, is_vacant}
+use Rattle.shelf.specs.Calls.{is_idle}
 use Rattle.shelf.proofs.Basics.{get_d_mapped}
 use Rattle.block_rules.specs.declared.parts.Access.TheVariants.{ReadCurrent, SetGuard, Compare, ReadBlock}
 use Rattle.block_rules.specs.declared.parts.Job.{Job}

@@ -1,5 +1,5 @@
 -- A state is sound in one way at most, so `Sound` may stand in a ghost field, truncated, and be taken out again.
-use Rattle.std.proofs.Common.{◌≡◌, ℕ, Some, None, Option, refl, ap, arith}
+use Rattle.std.proofs.Common.{◌≡◌, ℕ, Some, None, Option, refl, ap}
 use mathlib.Core.Logic.{∥∥₁_elim}
 use mathlib.Core.HLevel.{hedberg, ×_prop}
 use native.Mathlib.Nat.{ℕ_set}

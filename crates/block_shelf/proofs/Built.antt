@@ -1,22 +1,21 @@
 -- The making of a block shelf, on the lists that its fields hold.
-use Rattle.std.proofs.Common.{◌≡◌, ℕ, zero, suc, ◌+◌, ◌-◌, ◌*◌, ◌<◌, ◌≤◌, min, Bool, cond, ltb, List, [], ◌∷◌, ◌++◌, map, reverse, length, drop, replicate, Ok, Err, Result, None, sym, refl, ap, ◌∙◌, subst, arith}
+use Rattle.std.proofs.Common.{◌≡◌, ℕ, zero, suc, ◌+◌, ◌-◌, ◌*◌, ◌<◌, ◌≤◌, min, List, [], ◌∷◌, ◌++◌, map, reverse, length, drop, replicate, Ok, Err, Result, None, sym, refl, ap, ◌∙◌, subst, arith}
+use Rattle.std.proofs.lemmas.List.FromFn.{length-range_with_len}
 use Rattle.std.proofs.lemmas.List.{map-append, length-reverse, reverse-append}
-use Rattle.std.proofs.lemmas.Nat.{mul-le}
-use Rattle.plan.specs.Plans.{width, need, plan_verdict, Small}
+use Rattle.plan.specs.Plans.{width, need, plan_verdict}
 use Rattle.std.specs.Result.{ResultUnwrapsOrElse}
 use Rattle.plan.specs.Refusals.{Outcome, accepted, refused, told}
 use Rattle.plan.specs.declared.refusal.Refusal.{Refusal}
 use Rattle.plan.specs.declared.check.Plan.{Plan}
 use Rattle.plan.specs.declared.check.ShelfType.TheVariants.{Block}
 use Rattle.shelf.specs.Rules.{Fresh}
-use Rattle.shelf.proofs.Ranges.{plan_accepted, range_small}
+use Rattle.shelf.proofs.Ranges.{plan_accepted}
 use Rattle.block_parts.specs.declared.seat.Seat.{Seat}
 use Rattle.block_parts.specs.Seats.{party_of}
 use Rattle.block_rules.specs.declared.parts.LinkState.{LinkState}
 use Rattle.block_rules.specs.Blocks.{share, Party, State, state_of, unused, blocks_from, fresh_party, fresh_parties, no_plan, made_by, made, fresh}
 use Rattle.block_rules.specs.Sound.{Sound}
 use Rattle.block_rules.proofs.AsShelf.{block_shelf_rules}
-use Rattle.block_rules.proofs.Fresh.{length_blocks}
 use Rattle.block_rules.proofs.Made.{nothing_sound, made_fresh}
 
 -- ** one more
@@ -54,7 +53,7 @@ ready_more b end xs ys low high inv list =
     ∙ sym (ap (blocks_from (b - 1)) one ∙ ap (λ (x : ℕ). (b - 1) ∷ blocks_from x (end - b)) next)))
 
 pub ready_length : (b n : ℕ) (xs : List ℕ) → reverse xs ≡ blocks_from b n → length xs ≡ n
-ready_length b n xs e = sym (length-reverse xs) ∙ (ap length e ∙ length_blocks b n)
+ready_length b n xs e = sym (length-reverse xs) ∙ (ap length e ∙ length-range_with_len b n)
 
 pub all_ready : (first count b : ℕ) (xs : List ℕ) → (first ≤ b) × (reverse xs ≡ blocks_from b (first + count - b)) → b ≤ first → reverse xs ≡ blocks_from first count
 all_ready first count b xs inv h =

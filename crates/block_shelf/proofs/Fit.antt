@@ -1,14 +1,12 @@
 -- A block shelf's fields fit each other, and go on to, on the lists that they hold.
-use Rattle.std.proofs.Common.{◌≡◌, ℕ, ◌+◌, ◌^◌, ◌<◌, ◌≤◌, Bool, true, false, cond, eqb, ltb, List, [], ◌∷◌, map, length, get_or, set, Some, None, Option, sym, refl, ap, ◌∙◌, subst, arith}
+use Rattle.std.proofs.Common.{◌≡◌, ℕ, ◌+◌, ◌<◌, ◌≤◌, Bool, true, false, eqb, ltb, List, [], ◌∷◌, map, length, get_or, set, Some, None, Option, sym, refl, ap, ◌∙◌, subst, arith}
 use Rattle.std.proofs.lemmas.List.{set-get_or, set_past, length-map, map-set, get_or-map, get_or_past}
-use Rattle.std.proofs.lemmas.Bool.{eq-eqb, ne_eqb, cond-true, ltb-true, ltb-false, true≢false}
+use Rattle.std.proofs.lemmas.Bool.{eq-eqb, ne_eqb, ltb-true, ltb-false, true≢false}
 use Rattle.std.proofs.lemmas.Nat.{mul-le}
 use Rattle.std.specs.Borrow.{MutBor}
 use Rattle.std.specs.List.{IsItemAtMut}
 use Rattle.plan.specs.Plans.{width}
 use Rattle.plan.specs.declared.check.Plan.{Plan}
-use Rattle.shelf.specs.declared.answer.Answer.{Answer}
-use Rattle.shelf.specs.declared.answer.Answer.TheVariants.{Missed}
 use Rattle.shelf.proofs.Basics.{own_below}
 use Rattle.block_parts.specs.declared.seat.Seat.{Seat}
 use Rattle.block_shelf.specs.declared.block.BlockShelf.{BlockShelf}
@@ -19,7 +17,7 @@ use Rattle.block_rules.specs.declared.parts.Access.{Access}
 use Rattle.block_rules.specs.declared.parts.Access.TheVariants.{ReadCurrent, SetGuard, Compare, ReadBlock}
 use Rattle.block_rules.specs.declared.parts.Job.{Job}
 use Rattle.block_rules.specs.declared.parts.Job.TheVariants.{Taking, Putting, Scanning}
-use Rattle.block_rules.specs.Blocks.{Party, in_hand, State, state_of, nobody, link, party, current_of, with_job, with_party, with_both, seeing, guarding, holding, channel_held, is_live, taken_up, put_from, start_put, compared, retiring, missing, turn_put, noted, freeing, turn_scan, turn_job, after_put_answer, rests}
+use Rattle.block_rules.specs.Blocks.{Party, in_hand, State, state_of, nobody, link, party, current_of, with_job, with_party, with_both, seeing, guarding, holding, channel_held, is_live, taken_up, put_from, start_put, compared, retiring, missing, turn_put, noted, freeing, turn_scan, turn_job, rests}
 use Rattle.block_rules.specs.Counting.{same}
 use Rattle.block_rules.specs.Sound.{Sound}
 use Rattle.block_rules.proofs.Steps.{task_at, sound_turn}

@@ -1,4 +1,4 @@
-use Rattle.std.proofs.Common.{refl, ap, ◌∙◌}
+use Rattle.std.proofs.Common.{ap, ◌∙◌}
 use Rattle.plan.specs.Plans.{plan_verdict}
 use Rattle.plan.specs.declared.check.ShelfType.TheVariants.{Block}
 use Rattle.block_shelf.proofs.Built.{made_state, made_sound, fresh_made}

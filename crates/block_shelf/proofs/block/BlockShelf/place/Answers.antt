@@ -1,4 +1,4 @@
-use Rattle.std.proofs.Common.{sym, ◌∙◌, arith, ap, subst}
+use Rattle.std.proofs.Common.{sym, arith, subst}
 use Rattle.plan.specs.Refusals.{accepted, told}
 use Rattle.block_rules.specs.declared.parts.Place.TheVariants.{Current}
 use Rattle.block_rules.specs.Places.{PlaceTold}
