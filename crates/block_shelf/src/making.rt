@@ -58,7 +58,7 @@ fn fresh_seats(heap: Global, plan: Plan) -> Result<Vec<Seat>, AllocError>
     let share = plan.all_links() as u16 + 1;
     let mut seats = Vec::new(heap);
     for party in 0..plan.parties {
-        seats.push(fresh_seat(plan.channels as u16 + party as u16 * share, share))?;
+        seats.push(fresh_seat(u16::from(plan.channels) + u16::from(party) * share, share))?;
     }
     Ok(seats)
 }
@@ -70,7 +70,7 @@ impl<'a, R: Reading> BlockShelf<'a, R> {
     pub fn make(
         heap: Global,
         plan: Plan,
-        row: BlockRow<'a, R>,
+        mut row: BlockRow<'a, R>,
     ) -> Result<BlockShelf<'a, R>, AllocError>
         ensures state { IfOk result (λ s. block_state s ≡ made R.Reading.kind.blank plan row.entry.blocks.now) }
         ensures fresh { IfOk result (λ s. (given : PlanIn) → accepted given ≡ plan_verdict plan Block (length row.entry.blocks.now) → Fresh (block_shelf_rules R.Reading.kind.blank) (block_state s)) }
@@ -81,7 +81,6 @@ impl<'a, R: Reading> BlockShelf<'a, R> {
         let current = first_blocks(heap, plan.channels)?;
         let links = filled(heap, LinkState::default(), plan.all_links())?;
         let seats = fresh_seats(heap, plan)?;
-        let mut row = row;
         row.blank_first(plan.blocks_needed(ShelfType::Block));
         Ok(BlockShelf {
             plan,
