@@ -1,9 +1,10 @@
 -- What the place question tells, and the laws of places and of held blocks over every run of calls.
-use Rattle.std.proofs.Common.{◌≡◌, ℕ, ◌+◌, ◌<◌, List, length, get_or, Some, None, Option, refl, ap, ◌∙◌, arith}
+use Rattle.std.proofs.Common.{◌≡◌, ℕ, ◌+◌, ◌<◌, List, length, get_or, Some, None, Option, Result, sym, refl, subst, ap, ◌∙◌, arith}
 use Rattle.std.specs.Option.{ok_or}
 use Rattle.std.proofs.lemmas.Nat.{mul-le}
 use Rattle.plan.specs.Plans.{width, need}
 use Rattle.plan.specs.Refusals.{accepted, refused, told}
+use Rattle.plan.specs.declared.refusal.Refusal.{Refusal}
 use Rattle.plan.specs.declared.refusal.Refusal.TheVariants.{NoSuchBlock}
 use Rattle.plan.specs.declared.check.ShelfType.TheVariants.{Block}
 use Rattle.shelf.specs.Laws.{after_all}
@@ -25,7 +26,7 @@ use Rattle.block_rules.proofs.AsShelf.{block_shelf_rules}
 use Rattle.block_rules.proofs.Placed.{none_there, none_with, one_only, placed_known, not_placed, placed}
 use Rattle.block_rules.proofs.Writing.{call_writes, call_untouched, held_safe, call_spares}
 
-module _ {R : Type 0} (v : BlockShelf R) (b : ℕ) where
+module _ {R : Type 0} (v : BlockShelf R) (n : ℕ) where
   abbrev s : State R
   s = block_state v
 
@@ -33,26 +34,28 @@ module _ {R : Type 0} (v : BlockShelf R) (b : ℕ) where
   ok = now_sound v
 
   -- a block beyond what a place can be told of
-  pub too_large : 65535 < b → PlaceTold s b (refused 10)
+  pub too_large : 65535 < n → PlaceTold s n (refused 10)
   too_large h =
       let most = mul-le s.plan.parties (width s.plan + 1) 24 97 ok.small.parties (omega (arith, mul-le s.plan.parties s.plan.links 24 4 ok.small.parties ok.small.links)) in
       (omega (arith, h, most, ok.small.channels), refl)
 
-  pub told_place : (x : Place) → StandsAt s b x → PlaceTold s b (accepted x)
-  told_place x h = (placed_known s ok b x h, one_only s ok b x h)
+  -- the block that is looked for, b, is the one that was asked for
+  module _ (b : ℕ) (same : b ≡ n) where
+    pub told_place : (x : Place) → StandsAt s b x → PlaceTold s n (accepted x)
+    told_place x h = subst (λ (k : ℕ). PlaceTold s k (accepted x)) same (placed_known s ok b x h, one_only s ok b x h)
 
-  -- found neither with a channel nor with a party
-  told_nowhere : ChannelTold s b None → PartyTold s b None → PlaceTold s b (refused 10)
-  unfolding standings
-  told_nowhere channels parties = (not_placed s ok b none, refl)
-    where
-      none : standings s b ≡ 0
-      none = omega (arith, none_there b s.current (λ i h e. channels i (omega (arith, h, ok.currents)) e), none_with b s.parties (λ p h. parties p (omega (arith, h, ok.parties))))
+    -- found neither with a channel nor with a party
+    told_nowhere : ChannelTold s b None → PartyTold s b None → PlaceTold s n (refused 10)
+    unfolding standings
+    told_nowhere channels parties = subst (λ (k : ℕ). PlaceTold s k (refused 10)) same (not_placed s ok b none, refl)
+      where
+        none : standings s b ≡ 0
+        none = omega (arith, none_there b s.current (λ i h e. channels i (omega (arith, h, ok.currents)) e), none_with b s.parties (λ p h. parties p (omega (arith, h, ok.parties))))
 
-  -- what is told of a block that no channel has
-  pub told_with : ChannelTold s b None → (o : Option Place) → PartyTold s b o → PlaceTold s b (told (ok_or o NoSuchBlock))
-  told_with channels None parties = told_nowhere channels parties
-  told_with channels (Some x) there = told_place x there
+    -- what is told of a block that no channel has
+    pub told_with : ChannelTold s b None → (o : Option Place) → PartyTold s b o → (r : Result Place Refusal) → r ≡ ok_or o NoSuchBlock → PlaceTold s n (told r)
+    told_with channels None parties r e = subst (λ (x : Result Place Refusal). PlaceTold s n (told x)) (sym e) (told_nowhere channels parties)
+    told_with channels (Some x) there r e = subst (λ (y : Result Place Refusal). PlaceTold s n (told y)) (sym e) (told_place x there)
 
 module _ {R : Type 0} (d : R) (v : BlockShelf R) where
   pub places_stay : PlacesStay d (block_state v)
