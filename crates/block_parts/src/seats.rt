@@ -1,5 +1,5 @@
-ghost use Rattle.std.specs.Prelude.{◌≡◌, ℕ, ◌+◌, ◌<◌, ◌≤◌, not, List, [], ◌∷◌, ◌++◌, reverse, length};
-ghost use Rattle.block_rules.specs.Blocks.{missing, retiring, after_put_answer, noted, unread, still_held, freeing, among, in_hand};
+ghost use Rattle.std.specs.Prelude.{◌≡◌, ◌+◌, ◌<◌, ◌≤◌, ◌++◌, length};
+ghost use Rattle.block_rules.specs.Blocks.{missing, retiring, after_put_answer, noted, unread, still_held, freeing};
 ghost use Rattle.block_parts.specs.Seats.{party_of, top_of, took_up, going_on, place_with};
 
 use crate::block_list::{BlockList, MOST_BLOCKS};
@@ -60,8 +60,8 @@ impl Seat {
         self.job = Job::Idle;
     }
 
-    #[tactic(auto, using(crate::proofs::Members::among_reverse))]
     /// Where a block stands with this party, whose number is given, if it does.
+    #[tactic(auto, using(crate::proofs::Members::among_reverse))]
     pub fn place_of(&self, party: u8, block: u16) -> Option<Place>
         ensures { result ≡ place_with (party_of self.now) party block }
     {

@@ -1,7 +1,7 @@
 -- A block shelf's fields fit each other, and go on to, on the lists that they hold.
 use Rattle.std.proofs.Common.{◌≡◌, ℕ, ◌+◌, ◌<◌, ◌≤◌, Bool, true, false, eqb, ltb, List, [], ◌∷◌, map, length, get_or, set, Some, None, Option, sym, refl, ap, ◌∙◌, subst, arith}
 use Rattle.std.proofs.lemmas.List.{set-get_or, set_past, length-map, map-set, get_or-map, get_or_past}
-use Rattle.std.proofs.lemmas.Bool.{eq-eqb, ne_eqb, ltb-true, ltb-false, true≢false}
+use Rattle.std.proofs.lemmas.Bool.{eq-eqb, ne_eqb, ltb-true, ltb-false, true≢false, lt-ltb, le-ltb}
 use Rattle.std.proofs.lemmas.Nat.{mul-le}
 use Rattle.std.specs.Borrow.{MutBor}
 use Rattle.std.specs.List.{IsItemAtMut}
@@ -178,6 +178,9 @@ module _ {R : Type 0} (v : BlockShelf R) where
           (step (omega (arith, ap (λ (x : Party). length x.ready) (here put_there), fits_share p (Putting j h) e refl)))
           ∙ ap (turn_put now p j h) live
 
+      pub missed_sound : (length (party_of q).ready < 97 → party_of q' ≡ missing (party_of q) h) → false ≡ is_live now j → ∥ Sound (state_of pl row current links (map party_of (set seats p q'))) ∥₁
+      missed_sound step live = allowed_then _ _ (missed_is step live) (turn_sound p (Putting j h) e refl)
+
       pub stored_is : (c b : ℕ) → c ≡ channel_held (link now j).hold → b ≡ (link now j).seen → (length (party_of q).retired < 97 → party_of q' ≡ retiring (party_of q) j b) → true ≡ is_live now j
           → state_of pl row (set current c h) links (map party_of (set seats p q')) ≡ turn_put now p j h (is_live now j)
       stored_is c b channel seen step live =
@@ -186,6 +189,10 @@ module _ {R : Type 0} (v : BlockShelf R) where
           ∙ (ap (λ (x : ℕ). state_of pl row (set current x h) links (set (map party_of seats) p (retiring (party now p) j b))) channel
           ∙ (ap (λ (x : ℕ). state_of pl row (set current (channel_held (link now j).hold) h) links (set (map party_of seats) p (retiring (party now p) j x))) seen
           ∙ ap (turn_put now p j h) live))
+
+      pub stored_sound : (c b : ℕ) → c ≡ channel_held (link now j).hold → b ≡ (link now j).seen → (length (party_of q).retired < 97 → party_of q' ≡ retiring (party_of q) j b) → true ≡ is_live now j
+          → ∥ Sound (state_of pl row (set current c h) links (map party_of (set seats p q'))) ∥₁
+      stored_sound c b channel seen step live = allowed_then _ _ (stored_is c b channel seen step live) (turn_sound p (Putting j h) e refl)
 
     -- a scan that goes on, and one that ends
     module _ (j k : ℕ) (e : (party now p).job ≡ Scanning j k) (guard : Option ℕ) (read : guard ≡ (link now k).guard) where
@@ -202,18 +209,25 @@ module _ {R : Type 0} (v : BlockShelf R) where
             mul-le pl.parties pl.links 24 4 now_sound.small.parties now_sound.small.links,
           )
 
-      pub went_on : (length (party_of q).read < 97 → party_of q' ≡ going_on (party_of q) guard (Scanning j (k + 1))) → ltb (k + 1) (width pl) ≡ true
+      pub went_on : (length (party_of q).read < 97 → party_of q' ≡ going_on (party_of q) guard (Scanning j (k + 1))) → k + 1 < width pl
           → state_of pl row current links (map party_of (set seats p q')) ≡ turn_scan now p j k (link now k).guard (ltb (k + 1) (width pl))
       went_on step more =
           seated pl row current links seats p q q' (λ (x : Party). going_on x guard (Scanning j (k + 1))) is scan_there (step few_read)
-          ∙ (ap (λ (x : Option ℕ). turn_scan now p j k x true) read ∙ ap (turn_scan now p j k (link now k).guard) (sym more))
+          ∙ (ap (λ (x : Option ℕ). turn_scan now p j k x true) read ∙ ap (turn_scan now p j k (link now k).guard) (sym (lt-ltb (k + 1) (width pl) more)))
+
+      pub went_on_sound : (length (party_of q).read < 97 → party_of q' ≡ going_on (party_of q) guard (Scanning j (k + 1))) → k + 1 < width pl → ∥ Sound (state_of pl row current links (map party_of (set seats p q'))) ∥₁
+      went_on_sound step more = allowed_then _ _ (went_on step more) (turn_sound p (Scanning j k) e refl)
 
       pub finished_is : (length (party_of q).read < 97 → length (party_of q).ready + length (party_of q).retired ≤ 97 → party_of q' ≡ freeing (party_of q) (noted guard (party_of q).read))
-          → ltb (k + 1) (width pl) ≡ false → state_of pl row current links (map party_of (set seats p q')) ≡ turn_scan now p j k (link now k).guard (ltb (k + 1) (width pl))
+          → width pl ≤ k + 1 → state_of pl row current links (map party_of (set seats p q')) ≡ turn_scan now p j k (link now k).guard (ltb (k + 1) (width pl))
       finished_is step last =
           seated pl row current links seats p q q' (λ (x : Party). freeing x (noted guard x.read)) is scan_there
           (step few_read (omega (arith, ap (λ (x : Party). length x.ready + length x.retired) (here scan_there), fits_share p (Scanning j k) e refl)))
-          ∙ (ap (λ (x : Option ℕ). turn_scan now p j k x false) read ∙ ap (turn_scan now p j k (link now k).guard) (sym last))
+          ∙ (ap (λ (x : Option ℕ). turn_scan now p j k x false) read ∙ ap (turn_scan now p j k (link now k).guard) (sym (le-ltb (k + 1) (width pl) last)))
+
+      pub finished_sound : (length (party_of q).read < 97 → length (party_of q).ready + length (party_of q).retired ≤ 97 → party_of q' ≡ freeing (party_of q) (noted guard (party_of q).read))
+          → width pl ≤ k + 1 → ∥ Sound (state_of pl row current links (map party_of (set seats p q'))) ∥₁
+      finished_sound step last = allowed_then _ _ (finished_is step last) (turn_sound p (Scanning j k) e refl)
 
   -- the channel of a put's link
   pub put_channel : (p j h : ℕ) → (party now p).job ≡ Putting j h → channel_held (link now j).hold < length current
