@@ -1,4 +1,4 @@
-ghost use Rattle.std.specs.Prelude.{◌≡◌, ◌+◌, ◌<◌, if◌then◌else◌, ◌==◌, nat_lt};
+ghost use Rattle.std.specs.Prelude.{◌≡◌, ◌+◌, if◌then◌else◌, ◌==◌, nat_lt};
 ghost use Rattle.plan.specs.Plans.{width};
 ghost use Rattle.block_rules.specs.Blocks.{link as link_in, party as party_at, current_of, is_live, with_job, with_party, with_both, start_put, compared, turn_take, turn_put, turn_scan, turn_job, take_answer, after_put_answer};
 ghost use Rattle.block_rules.specs.Sound.{Sound};
