@@ -1,15 +1,12 @@
 -- The place that a seat tells is one where the block stands; and if it tells none, the block does not stand with the party.
-use Rattle.std.proofs.Common.{◌≡◌, ℕ, ◌<◌, Bool, true, false, cond, reverse, Some, None, sym, refl, ap, ◌∙◌, subst, arith}
-use Rattle.block_parts.specs.declared.seat.Seat.{Seat}
-use Rattle.block_parts.specs.Lists.{blocks_in}
-use Rattle.block_parts.specs.Seats.{party_of, place_with}
+use Rattle.std.proofs.Common.{◌≡◌, ℕ, ◌<◌, Bool, true, false, cond, Some, None, refl, subst, arith}
+use Rattle.block_parts.specs.Seats.{place_with}
 use Rattle.block_rules.specs.declared.parts.Place.{Place}
 use Rattle.block_rules.specs.declared.parts.Place.TheVariants.{Ready, Retired, InHand}
 use Rattle.block_rules.specs.Blocks.{in_hand, State, party, among}
 use Rattle.block_rules.specs.Counting.{stands_with}
 use Rattle.block_rules.specs.Places.{StandsAt}
 use Rattle.block_rules.proofs.Placed.{among_yes, among_not}
-use Rattle.block_parts.proofs.Members.{among_reverse}
 
 module _ {R : Type 0} (s : State R) (p b : ℕ) where
   pub told_stands : p < s.plan.parties → (x : Place) → Some x ≡ place_with (party s p) p b → StandsAt s b x
@@ -31,11 +28,3 @@ module _ {R : Type 0} (s : State R) (p b : ℕ) where
       by false f true g v h k = let z : ◌≡◌ {A = ℕ} 0 1 = cc in absurd (omega arith)
       by false f false g true h k = let z : ◌≡◌ {A = ℕ} 0 1 = cc in absurd (omega arith)
       by false f false g false h k = omega (arith, among_not b (party s p).ready f, among_not b (party s p).retired g, among_not b (in_hand (party s p).job) h)
-
--- the place by the three searches of a seat
-pub place_by : (q : Seat) (p b : ℕ) (t u v : Bool) → t ≡ among b (blocks_in q.ready) → u ≡ among b (blocks_in q.retired) → v ≡ among b (in_hand q.job)
-    → cond t (Some (Ready p)) (cond u (Some (Retired p)) (cond v (Some (InHand p)) None)) ≡ place_with (party_of q) p b
-place_by q p b t u v f g h =
-    ap (λ (x : Bool). cond x (Some (Ready p)) (cond u (Some (Retired p)) (cond v (Some (InHand p)) None))) (f ∙ sym (among_reverse b (blocks_in q.ready)))
-    ∙ (ap (λ (x : Bool). cond (among b (reverse (blocks_in q.ready))) (Some (Ready p)) (cond x (Some (Retired p)) (cond v (Some (InHand p)) None))) g
-    ∙ ap (λ (x : Bool). cond (among b (reverse (blocks_in q.ready))) (Some (Ready p)) (cond (among b (blocks_in q.retired)) (Some (Retired p)) (cond x (Some (InHand p)) None))) h)

@@ -1,9 +1,7 @@
-ghost use Rattle.std.specs.Prelude.{◌≤◌};
+use arrayvec::ArrayVec;
 
-/// A list of blocks, with room for as many as a party can own: 24 × 4 links and one more.
-#[derive(Clone, Copy)]
-pub struct BlockList {
-    pub(crate) len: usize,
-    pub(crate) blocks: [u16; 97],
-    ghost fits: { len ≤ 97 },
-}
+/// The most blocks that a party can own: one for each of at most 24 × 4 links, and one more.
+pub const MOST_BLOCKS: usize = 97;
+
+/// A list of blocks. It has its room in itself, so nothing is allocated after a shelf is made.
+pub type BlockList = ArrayVec<u16, MOST_BLOCKS>;

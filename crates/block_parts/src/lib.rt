@@ -1,8 +1,6 @@
-//! The parts of a block shelf: lists of blocks, what a party has of them, and the steps of a link and of a party.
+//! The parts of a block shelf: lists of blocks, and what a party has of them and the steps that it takes.
 #![tactic(auto)]
 
 pub mod block_list;
-pub mod links;
-mod lists;
 pub mod seat;
 mod seats;

@@ -1,9 +1,8 @@
-ghost use Rattle.std.specs.Prelude.{◌≡◌, ℕ, ◌+◌, ◌<◌, ◌≤◌, not, List, [], ◌∷◌, ◌++◌, reverse, length};
-ghost use Rattle.block_rules.specs.Blocks.{missing, retiring, after_put_answer, noted, unread, still_held, freeing, among, in_hand};
-ghost use Rattle.block_parts.specs.Lists.{blocks_in, room};
+ghost use Rattle.std.specs.Prelude.{◌≡◌, ◌+◌, ◌<◌, ◌≤◌, ◌++◌, length};
+ghost use Rattle.block_rules.specs.Blocks.{missing, retiring, after_put_answer, noted, unread, still_held, freeing};
 ghost use Rattle.block_parts.specs.Seats.{party_of, top_of, took_up, going_on, place_with};
 
-use crate::block_list::BlockList;
+use crate::block_list::{BlockList, MOST_BLOCKS};
 use crate::seat::Seat;
 use block_rules::parts::{Job, Place};
 use shelf::answer::Answer;
@@ -21,9 +20,9 @@ impl Seat {
 
     /// The put missed: its block goes back on top of ready, if there is room.
     pub fn miss(&mut self, block: u16)
-        ensures { length (party_of self.old).ready < room → party_of self.new ≡ missing (party_of self.old) block }
+        ensures { length (party_of self.old).ready < MOST_BLOCKS → party_of self.new ≡ missing (party_of self.old) block }
     {
-        self.ready.push(block);
+        self.ready.try_push(block).ok();
         self.job = Job::Idle;
     }
 
@@ -31,10 +30,10 @@ impl Seat {
     /// block is ready, a scan follows.
     pub fn retire(&mut self, link: usize, seen: u16) -> Answer
         ensures answer { result ≡ after_put_answer (party_of self.old).ready }
-        ensures party { length (party_of self.old).retired < room → party_of self.new ≡ retiring (party_of self.old) link seen }
+        ensures party { length (party_of self.old).retired < MOST_BLOCKS → party_of self.new ≡ retiring (party_of self.old) link seen }
     {
-        self.retired.push(seen);
-        self.read = BlockList::new();
+        self.retired.try_push(seen).ok();
+        self.read.clear();
         if self.ready.is_empty() {
             self.job = Job::Scanning(link, 0);
             return Answer::Run;
@@ -45,7 +44,7 @@ impl Seat {
 
     /// The scan read a guard and goes on with the given job. A block in the guard is noted, if there is room.
     pub fn go_on(&mut self, guard: Option<u16>, job: Job)
-        ensures { length (party_of self.old).read < room → party_of self.new ≡ going_on (party_of self.old) guard job }
+        ensures { length (party_of self.old).read < MOST_BLOCKS → party_of self.new ≡ going_on (party_of self.old) guard job }
     {
         note(&mut self.read, guard);
         self.job = job;
@@ -53,66 +52,52 @@ impl Seat {
 
     /// The scan read its last guard: the retired blocks that no guard had are ready again.
     pub fn finish(&mut self, guard: Option<u16>)
-        ensures { length (party_of self.old).read < room → length (party_of self.old).ready + length (party_of self.old).retired ≤ room
+        ensures { length (party_of self.old).read < MOST_BLOCKS → length (party_of self.old).ready + length (party_of self.old).retired ≤ MOST_BLOCKS
             → party_of self.new ≡ freeing (party_of self.old) (noted guard (party_of self.old).read) }
     {
         note(&mut self.read, guard);
-        self.retired = sort_out(&mut self.ready, &self.retired, &self.read);
+        sort_out(&mut self.ready, &mut self.retired, &self.read);
         self.job = Job::Idle;
     }
 
     /// Where a block stands with this party, whose number is given, if it does.
+    #[tactic(auto, using(crate::proofs::Members::among_reverse))]
     pub fn place_of(&self, party: u8, block: u16) -> Option<Place>
         ensures { result ≡ place_with (party_of self.now) party block }
     {
-        if self.ready.contains(block) {
+        if self.ready.contains(&block) {
             return Some(Place::Ready(party));
         }
-        if self.retired.contains(block) {
+        if self.retired.contains(&block) {
             return Some(Place::Retired(party));
         }
-        if has_in_hand(self.job, block) {
+        if matches!(self.job, Job::Putting(_, hand) if hand == block) {
             return Some(Place::InHand(party));
         }
         None
     }
 }
 
-// Whether a party with this job has the block in hand.
-fn has_in_hand(job: Job, block: u16) -> bool
-    ensures { result ≡ among block (in_hand job) }
-{
-    match job {
-        Job::Idle => false,
-        Job::Taking(_, _, _) => false,
-        Job::Putting(_, hand) => block == hand,
-        Job::Scanning(_, _) => false,
-        Job::Checking(_) => false,
-    }
-}
-
 // Notes the block of a guard, if it has one.
 fn note(read: &mut BlockList, guard: Option<u16>)
-    ensures { length (blocks_in read.old) < room → blocks_in read.new ≡ noted guard (blocks_in read.old) }
+    ensures { length read.old.items < MOST_BLOCKS → read.new.items ≡ noted guard read.old.items }
 {
     if let Some(block) = guard {
-        read.push(block);
+        read.try_push(block).ok();
     }
 }
 
-// Sorts the retired blocks: those that were not read in a guard go on top of ready, in their order; the others are answered.
-fn sort_out(ready: &mut BlockList, retired: &BlockList, read: &BlockList) -> BlockList
-    ensures freed { length (blocks_in ready.old) + length (blocks_in retired.now) ≤ room
-        → blocks_in ready.new ≡ blocks_in ready.old ++ unread (blocks_in read.now) (blocks_in retired.now) }
-    ensures kept { blocks_in result ≡ still_held (blocks_in read.now) (blocks_in retired.now) }
+// Sorts the retired blocks: those that were not read in a guard go on top of ready, in their order, if there is room;
+// the others stay.
+fn sort_out(ready: &mut BlockList, retired: &mut BlockList, read: &BlockList)
+    ensures freed { length ready.old.items + length retired.old.items ≤ MOST_BLOCKS
+        → ready.new.items ≡ ready.old.items ++ unread read.now.items retired.old.items }
+    ensures kept { retired.new.items ≡ still_held read.now.items retired.old.items }
 {
-    let mut held = BlockList::new();
-    for block in retired.as_slice() {
-        if read.contains(*block) {
-            held.push(*block);
-        } else {
-            ready.push(*block);
-        }
-    }
-    held
+    let freed = retired
+        .iter()
+        .copied()
+        .filter(|block| !read.contains(block));
+    ready.extend(freed).ok();
+    retired.retain(|block| read.contains(block));
 }

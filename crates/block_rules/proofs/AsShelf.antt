@@ -1,5 +1,5 @@
 -- The block shelf's rules as those of a shelf.
-use Rattle.std.proofs.Common.{◌≡◌, ℕ, ◌<◌, ◌≤◌, Bool, true, not, eqb, ◌≢◌, ◌⊎◌, List, [], ◌∷◌, get_or, sym, refl, ap, ◌∙◌, subst, inl, inr, ⊎_elim, arith}
+use Rattle.std.proofs.Common.{◌≡◌, ℕ, ◌<◌, ◌≤◌, Bool, true, eqb, ◌≢◌, ◌⊎◌, List, [], ◌∷◌, get_or, sym, refl, ap, ◌∙◌, subst, inl, inr, ⊎_elim, arith, Some, None, Option}
 use Rattle.std.proofs.lemmas.List.{get_or-set_same, length-map}
 use Rattle.std.proofs.lemmas.Bool.{eq-eqb}
 use Rattle.plan.specs.Plans.{patience}
@@ -7,14 +7,12 @@ use Rattle.plan.specs.declared.check.ShelfType.TheVariants.{Block}
 use Rattle.shelf.specs.declared.answer.Answer.{Answer}
 use Rattle.shelf.specs.Meaning.{vacant, holds, Operation, put, check, Activity, idle, waits, in_force, link_at, activity_of, Sizes, Stores, is_on, take as take_op}
 use Rattle.shelf.specs.Rules.{Rules}
-use Rattle.shelf.specs.Calls.{is_idle, is_vacant}
+use Rattle.shelf.specs.Calls.{is_idle}
 use Rattle.shelf.proofs.Basics.{get_d_mapped}
-use Rattle.block_rules.specs.declared.parts.Hold.{Hold}
-use Rattle.block_rules.specs.declared.parts.Hold.TheVariants.{Empty, On}
 use Rattle.block_rules.specs.declared.parts.Access.TheVariants.{ReadCurrent, SetGuard, Compare, ReadBlock}
 use Rattle.block_rules.specs.declared.parts.Job.{Job}
 use Rattle.block_rules.specs.declared.parts.Job.TheVariants.{Idle, Taking, Putting, Scanning, Checking}
-use Rattle.block_rules.specs.Blocks.{Party, State, unused, nobody, link, party, current_of, with_job, emptied, channel_held, is_held, rests, is_live, start_take, start_put, start_check, dropped, after_put, turn_put, turn_job, turned, answer}
+use Rattle.block_rules.specs.Blocks.{Party, State, unused, nobody, link, party, current_of, with_job, emptied, channel_held, rests, is_live, start_take, start_put, start_check, dropped, after_put, turn_put, turn_job, turned, answer}
 use Rattle.block_rules.specs.Sound.{Sound}
 use Rattle.block_rules.specs.Means.{link_of, link_from, activity_in, activity_from, means, turns_left}
 use Rattle.block_rules.proofs.Kept.{turn_same, plan_put}
@@ -41,9 +39,9 @@ module _ {R : Type 0} (d : R) where
   idle_of row (Scanning j k) e = absurd (in_force_not _ e)
   idle_of row (Checking j) e = absurd (waits_not (check j) e)
 
-  on_of : (row : List R) (current : List ℕ) (b : ℕ) (l : Hold) → (link_of d row current b l ≡ vacant → ⊥) → (c : ℕ) × (l ≡ On c)
-  on_of row current b Empty n = absurd (n refl)
-  on_of row current b (On c) n = (c, refl)
+  on_of : (row : List R) (current : List ℕ) (b : ℕ) (l : Option ℕ) → (link_of d row current b l ≡ vacant → ⊥) → (c : ℕ) × (l ≡ Some c)
+  on_of row current b None n = absurd (n refl)
+  on_of row current b (Some c) n = (c, refl)
 
   rest_of : (row : List R) (job : Job) → rests job ≡ is_idle (activity_in d row job)
   rest_of row Idle = refl
@@ -54,10 +52,6 @@ module _ {R : Type 0} (d : R) where
   rest_of row (Putting j h) = refl
   rest_of row (Scanning j k) = refl
   rest_of row (Checking j) = refl
-
-  held_of : (row : List R) (current : List ℕ) (b : ℕ) (l : Hold) → is_held l ≡ not (is_vacant (link_of d row current b l))
-  held_of row current b Empty = refl
-  held_of row current b (On c) = refl
 
   -- activity and link in the meaning, also of a party or a link that is not there
   module _ (s : State R) where
@@ -70,21 +64,18 @@ module _ {R : Type 0} (d : R) where
     pub rests_is : (p : ℕ) → rests (party s p).job ≡ is_idle (activity_of (means d s) p)
     rests_is p = rest_of s.row (party s p).job ∙ ap is_idle (sym (activity_is p))
 
-    pub held_is : (j : ℕ) → is_held (link s j).hold ≡ not (is_vacant (link_at (means d s) j))
-    held_is j = held_of s.row s.current (link s j).seen (link s j).hold ∙ ap (λ l. not (is_vacant l)) (sym (link_is j))
-
     pub idle_from : (p : ℕ) → activity_of (means d s) p ≡ idle → (party s p).job ≡ Idle
     idle_from p e = idle_of s.row (party s p).job (sym (activity_is p) ∙ e)
 
     pub busy_from : (p : ℕ) → activity_of (means d s) p ≢ idle → (party s p).job ≢ Idle
     busy_from p n e = n (activity_is p ∙ ap (activity_in d s.row) e)
 
-    pub on_from : (j : ℕ) → link_at (means d s) j ≢ vacant → (c : ℕ) × ((link s j).hold ≡ On c)
+    pub on_from : (j : ℕ) → link_at (means d s) j ≢ vacant → (c : ℕ) × ((link s j).hold ≡ Some c)
     on_from j n = on_of s.row s.current (link s j).seen (link s j).hold (λ e. n (link_is j ∙ e))
 
   -- in the words of the meaning
   module _ (s : State R) (ok : Sound s) where
-    held_link : (j c : ℕ) → (link s j).hold ≡ On c → link_at (means d s) j ≡ holds c (get_or s.row (link s j).seen d) (eqb (current_of s c) (link s j).seen)
+    held_link : (j c : ℕ) → (link s j).hold ≡ Some c → link_at (means d s) j ≡ holds c (get_or s.row (link s j).seen d) (eqb (current_of s c) (link s j).seen)
     held_link j c e = link_is s j ∙ ap (link_of d s.row s.current (link s j).seen) e
 
     on_channel : (c : ℕ) (job : Job) → channel_in s job c → is_on (means d s) (activity_in d s.row job) c
@@ -109,7 +100,7 @@ module _ {R : Type 0} (d : R) where
         ∙ ap (λ (q : Party). q.job) (get_or-set_same s.parties p _ nobody (omega (arith, ok.parties))))
       where
         live : is_live s z.on_link ≡ true
-        live = ap (λ (x : Hold). eqb (current_of s (channel_held x)) (link s z.on_link).seen) z.held ∙ eq-eqb (current_of s c) (link s z.on_link).seen z.alive
+        live = ap (λ (x : Option ℕ). eqb (current_of s (channel_held x)) (link s z.on_link).seen) z.held ∙ eq-eqb (current_of s c) (link s z.on_link).seen z.alive
 
     stores_now : (p c : ℕ) → p < s.plan.parties → PutsLive s p c → Stores (means d s) (means d (turned s p)) p c
     stores_now p c in_p z =

@@ -2,8 +2,8 @@
 use Rattle.std.proofs.Common.{◌≡◌, ℕ, zero, suc, ◌+◌, ◌<◌, ◌≤◌, Bool, true, false, cond, not, ◌||◌, eqb, ◌≢◌, List, [], ◌∷◌, ◌++◌, reverse, length, get_or, set, sum_by, filter, sym, refl, ap, ◌∙◌, arith}
 use mathlib.Core.List.{reverse-cons}
 use Rattle.std.proofs.lemmas.List.Sums.{sum_by-cons, sum_by-append, sum_by-set, get_or-le-sum_by}
+use Rattle.std.proofs.lemmas.List.Filters.{sum_by-filter_both}
 use Rattle.std.proofs.lemmas.Bool.{eqb-true, eqb-false, eq-eqb, ne_eqb, both_ways}
-use Rattle.std.proofs.lemmas.Bool.Decides.{nat_tests}
 use Rattle.block_rules.specs.Blocks.{among, unread, still_held}
 use Rattle.block_rules.specs.Counting.{same, times}
 
@@ -12,12 +12,6 @@ same_self b = rw (eq-eqb b b refl)
 
 pub same_other : (b x : ℕ) → b ≢ x → same b x ≡ 0
 same_other b x h = rw (ne_eqb b x h)
-
-pub same_pos : (b x : ℕ) → 1 ≤ same b x → b ≡ x
-same_pos b x h = grind (arith, nat_tests)
-
-pub same_le : (b x : ℕ) → same b x ≤ 1
-same_le b x = grind (arith, nat_tests)
 
 pub times_nil : (b : ℕ) → times b [] ≡ 0
 unfolding times
@@ -66,29 +60,15 @@ sum_by_mono f g h (x ∷ xs) = omega (arith, sum_by-cons f x xs, sum_by-cons g x
 
 pub among_times : (b : ℕ) (xs : List ℕ) → 1 ≤ times b xs → among b xs ≡ true
 among_times b [] h = absurd (omega (arith, times_nil b))
-among_times b (x ∷ xs) h = go (eqb b x) refl (among_times b xs)
+among_times b (x ∷ xs) h = go (eqb x b) refl (among_times b xs)
   where
-    go : (t : Bool) → eqb b x ≡ t → (1 ≤ times b xs → among b xs ≡ true) → (t || among b xs) ≡ true
+    go : (t : Bool) → eqb x b ≡ t → (1 ≤ times b xs → among b xs ≡ true) → (t || among b xs) ≡ true
     go true e ih = refl
-    go false e ih = ih (omega (arith, times_cons b x xs, same_other b x (eqb-false b x e)))
+    go false e ih = ih (omega (arith, times_cons b x xs, same_other b x (λ k. eqb-false x b e (sym k))))
 
-pub freed_parts : (b : ℕ) (test : ℕ → Bool) (xs : List ℕ) → times b (filter (λ x. not (test x)) xs) + times b (filter test xs) ≡ times b xs
-freed_parts b test [] = omega (arith, times_nil b)
-freed_parts b test (x ∷ xs) = go (test x) (freed_parts b test xs)
-  where
-    go : (t : Bool) → times b (filter (λ y. not (test y)) xs) + times b (filter test xs) ≡ times b xs →
-        times b (cond (not t) (x ∷ filter (λ y. not (test y)) xs) (filter (λ y. not (test y)) xs)) + times b (cond t (x ∷ filter test xs) (filter test xs)) ≡ times b (x ∷ xs)
-    go true ih = omega (arith, times_cons b x (filter test xs), times_cons b x xs)
-    go false ih = omega (arith, times_cons b x (filter (λ y. not (test y)) xs), times_cons b x xs)
-
-pub freed_lengths : (test : ℕ → Bool) (xs : List ℕ) → length (filter (λ x. not (test x)) xs) + length (filter test xs) ≡ length xs
-freed_lengths test [] = omega arith
-freed_lengths test (x ∷ xs) = go (test x) (freed_lengths test xs)
-  where
-    go : (t : Bool) → length (filter (λ y. not (test y)) xs) + length (filter test xs) ≡ length xs →
-        length (cond (not t) (x ∷ filter (λ y. not (test y)) xs) (filter (λ y. not (test y)) xs)) + length (cond t (x ∷ filter test xs) (filter test xs)) ≡ suc (length xs)
-    go true ih = omega arith
-    go false ih = omega arith
+pub freed_parts : (b : ℕ) (test : ℕ → Bool) (xs : List ℕ) → times b (filter test xs) + times b (filter (λ x. not (test x)) xs) ≡ times b xs
+unfolding times
+freed_parts b test xs = sum_by-filter_both test (λ x. not (test x)) (λ _. refl) (same b) xs
 
 pub kept_none : (b : ℕ) (test : ℕ → Bool) → test b ≡ false → (xs : List ℕ) → times b (filter test xs) ≡ 0
 kept_none b test h [] = times_nil b
@@ -105,12 +85,12 @@ freed_none b read xs h = kept_none b (λ x. not (among x read)) (ap not (among_t
 -- one block more read keeps at most its own standings more
 one_more : (g : ℕ) (read xs : List ℕ) → length (still_held (g ∷ read) xs) ≤ times g xs + length (still_held read xs)
 one_more g read [] = omega arith
-one_more g read (x ∷ xs) = go (eqb x g) refl (among x read) (one_more g read xs)
+one_more g read (x ∷ xs) = go (eqb g x) refl (among x read) (one_more g read xs)
   where
-    go : (t : Bool) → eqb x g ≡ t → (u : Bool) → length (still_held (g ∷ read) xs) ≤ times g xs + length (still_held read xs) →
+    go : (t : Bool) → eqb g x ≡ t → (u : Bool) → length (still_held (g ∷ read) xs) ≤ times g xs + length (still_held read xs) →
         length (cond (t || u) (x ∷ still_held (g ∷ read) xs) (still_held (g ∷ read) xs)) ≤ times g (x ∷ xs) + length (cond u (x ∷ still_held read xs) (still_held read xs))
     go true e true ih = omega (arith, times_cons g x xs)
-    go true e false ih = omega (arith, times_cons g x xs, ap (same g) (eqb-true x g e), same_self g)
+    go true e false ih = omega (arith, times_cons g x xs, ap (same g) (eqb-true g x e), same_self g)
     go false e true ih = omega (arith, times_cons g x xs)
     go false e false ih = omega (arith, times_cons g x xs)
 

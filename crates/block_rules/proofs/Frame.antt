@@ -1,5 +1,5 @@
 -- One theorem for every step: a call of party p changes only p's seat, p's links, the currents and the row.
-use Rattle.std.proofs.Common.{◌≡◌, ℕ, ◌+◌, ◌<◌, ◌≤◌, ◌≢◌, ◌⊎◌, List, length, get_or, set, sym, ap, ◌∙◌, subst, ⊎_elim, arith}
+use Rattle.std.proofs.Common.{◌≡◌, ℕ, ◌+◌, ◌<◌, ◌≤◌, ◌≢◌, ◌⊎◌, List, length, get_or, set, sym, ap, ◌∙◌, subst, ⊎_elim, arith, Some}
 use Rattle.std.proofs.lemmas.List.{length-set, get_or-set_same, get_or-set_other}
 use Rattle.std.proofs.lemmas.List.Sums.{sum_by-set, get_or-le-sum_by}
 use Rattle.std.proofs.lemmas.Bool.{cases_eq}
@@ -8,7 +8,6 @@ use Rattle.plan.specs.Plans.{width, need}
 use Rattle.plan.specs.declared.check.ShelfType.TheVariants.{Block}
 use Rattle.shelf.specs.Meaning.{Own}
 use Rattle.shelf.proofs.Basics.{own_apart}
-use Rattle.block_rules.specs.declared.parts.Hold.TheVariants.{On}
 use Rattle.block_rules.specs.declared.parts.LinkState.{LinkState}
 use Rattle.block_rules.specs.declared.parts.Job.{Job}
 use Rattle.block_rules.specs.declared.parts.Job.TheVariants.{Idle, Taking, Putting, Scanning, Checking}
@@ -54,8 +53,8 @@ pub record Fits {R : Type 0} (s : State R) (row' : List R) (current' : List ℕ)
   pub moves : (b : ℕ) → times b current' + stands_with b q' ≡ times b s.current + stands_with b (party s p)
   pub others : (i : ℕ) → (Own s.plan p i → ⊥) → get_or links' i unused ≡ link s i
   pub held : (i : ℕ) → i < width s.plan → LinkOk (changed s row' current' links' p q') (get_or links' i unused)
-  pub stays : (i c : ℕ) → i < width s.plan → (get_or links' i unused).hold ≡ On c →
-      (((link s i).hold ≡ On c) × ((link s i).seen ≡ (get_or links' i unused).seen)) ⊎ (1 ≤ times (get_or links' i unused).seen current')
+  pub stays : (i c : ℕ) → i < width s.plan → (get_or links' i unused).hold ≡ Some c →
+      (((link s i).hold ≡ Some c) × ((link s i).seen ≡ (get_or links' i unused).seen)) ⊎ (1 ≤ times (get_or links' i unused).seen current')
   pub job : PartyOk (changed s row' current' links' p q') p q'
 
 module _ {R : Type 0} (s : State R) (ok : Sound s) (p : ℕ) (in_p : p < s.plan.parties) (row' : List R) (current' : List ℕ) (links' : List LinkState) (q' : Party) where
@@ -85,7 +84,7 @@ module _ {R : Type 0} (s : State R) (ok : Sound s) (p : ℕ) (in_p : p < s.plan.
     }
     job_kept q in_q ne (Putting j h) k = record {
       own = k.own;
-      held = subst (λ l. l.hold ≡ On (channel_held l.hold)) (sym (fits.others j (λ o. own_apart s.plan q p j k.own o ne))) k.held;
+      held = subst (λ l. l.hold ≡ Some (channel_held l.hold)) (sym (fits.others j (λ o. own_apart s.plan q p j k.own o ne))) k.held;
     }
     job_kept q in_q ne (Scanning j n) k = record {
       own = k.own;
@@ -93,7 +92,7 @@ module _ {R : Type 0} (s : State R) (ok : Sound s) (p : ℕ) (in_p : p < s.plan.
       none = k.none;
       few = k.few;
       met = λ i c h e m. ⊎_elim
-          (λ (same_link : ((link s i).hold ≡ On c) × ((link s i).seen ≡ (get_or links' i unused).seen)). subst (λ b. 1 ≤ times b (party s q).read) same_link.1 (k.met i c h same_link.0 (subst (λ b. 1 ≤ times b (party s q).retired) (sym same_link.1) m)))
+          (λ (same_link : ((link s i).hold ≡ Some c) × ((link s i).seen ≡ (get_or links' i unused).seen)). subst (λ b. 1 ≤ times b (party s q).read) same_link.1 (k.met i c h same_link.0 (subst (λ b. 1 ≤ times b (party s q).retired) (sym same_link.1) m)))
           (λ (now : 1 ≤ times (get_or links' i unused).seen current'). absurd (clash i now m))
           (fits.stays i c (omega (arith, k.within, h)) e);
     }
@@ -108,7 +107,7 @@ module _ {R : Type 0} (s : State R) (ok : Sound s) (p : ℕ) (in_p : p < s.plan.
     job_kept q in_q ne (Checking j) k = record {
       spare = k.spare;
       own = k.own;
-      held = subst (λ l. l.hold ≡ On (channel_held l.hold)) (sym (fits.others j (λ o. own_apart s.plan q p j k.own o ne))) k.held;
+      held = subst (λ l. l.hold ≡ Some (channel_held l.hold)) (sym (fits.others j (λ o. own_apart s.plan q p j k.own o ne))) k.held;
     }
 
     pub keeps : Sound (changed s row' current' links' p q')

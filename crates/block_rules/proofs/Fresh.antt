@@ -1,5 +1,6 @@
 -- A fresh shelf is sound.
 use Rattle.std.proofs.Common.{◌≡◌, ℕ, zero, suc, ◌+◌, ◌*◌, ◌<◌, ◌≤◌, List, length, get_or, sum_by, sym, refl, ap, ◌∙◌, subst, arith}
+use Rattle.std.proofs.lemmas.List.FromFn.{length-range_with_len}
 use Rattle.std.proofs.lemmas.List.{length-replicate, get_or-replicate}
 use Rattle.std.proofs.lemmas.List.Sums.{sum_by-cons}
 use Rattle.std.proofs.lemmas.Bool.Decides.{nat_tests}
@@ -11,11 +12,7 @@ use Rattle.block_rules.specs.Blocks.{share, Party, in_hand, unused, nobody, bloc
 use Rattle.block_rules.specs.Counting.{same, times, stands_with, standings, below}
 use Rattle.block_rules.specs.Sound.{JobOk, Sound}
 use Rattle.block_rules.proofs.Counts.{times_nil, times_cons}
-use Rattle.block_rules.proofs.Steps.{empty_not_on}
-
-pub length_blocks : (a n : ℕ) → length (blocks_from a n) ≡ n
-length_blocks a zero = refl
-length_blocks a (suc n) = ap suc (length_blocks (a + 1) n)
+use Rattle.block_rules.proofs.Steps.{none_not_some}
 
 length_seats : (a m n : ℕ) → length (fresh_parties a m n) ≡ n
 length_seats a m zero = refl
@@ -45,7 +42,7 @@ record New (m : ℕ) (q : Party) : Type 0 where
 
 new_seat : (a m n p : ℕ) → p < n → New m (get_or (fresh_parties a m n) p nobody)
 new_seat a m zero p h = absurd (omega arith)
-new_seat a m (suc n) zero h = record { ready = length_blocks a m; retired = refl; job = refl }
+new_seat a m (suc n) zero h = record { ready = length-range_with_len a m; retired = refl; job = refl }
 new_seat a m (suc n) (suc p) h = new_seat (a + m) m n p (omega arith)
 
 pub fresh_sound : {R : Type 0} (pl : Plan) (row : List R) → Small pl → need Block pl ≤ length row → Sound (fresh pl row)
@@ -53,11 +50,11 @@ unfolding standings
 fresh_sound pl row small h = record {
   small = small;
   rows = h;
-  currents = length_blocks 0 pl.channels;
+  currents = length-range_with_len 0 pl.channels;
   links = length-replicate (width pl) unused;
   parties = length_seats pl.channels (share pl) pl.parties;
   once = λ b. omega (arith, times_blocks b 0 pl.channels, below_zero b, ap (below b) (zero_plus pl.channels), sum_seats b pl.channels (share pl) pl.parties);
-  held = λ j k c e. absurd (empty_not_on c (sym (ap (λ l. l.hold) (get_or-replicate (width pl) j unused unused k)) ∙ e));
+  held = λ j k c e. absurd (none_not_some c (sym (ap (λ l. l.hold) (get_or-replicate (width pl) j unused unused k)) ∙ e));
   jobs = λ p k. let q = get_or (fresh_parties pl.channels (share pl) pl.parties) p nobody in let n = new_seat pl.channels (share pl) pl.parties p k in record {
     size = omega (arith, n.ready, n.retired, ap (λ x. length (in_hand x)) n.job);
     task = subst (JobOk (fresh pl row) p q) (sym n.job) (omega (arith, n.ready));

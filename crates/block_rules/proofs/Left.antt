@@ -1,12 +1,11 @@
 -- The turns left.
-use Rattle.std.proofs.Common.{◌≡◌, ℕ, ◌+◌, ◌-◌, ◌<◌, ◌≤◌, Bool, true, false, eqb, ltb, ◌≢◌, ◌⊎◌, List, [], ◌∷◌, length, get_or, set, Option, sym, refl, ap, ◌∙◌, subst, inl, inr, ⊎_elim, arith}
+use Rattle.std.proofs.Common.{◌≡◌, ℕ, ◌+◌, ◌-◌, ◌<◌, ◌≤◌, Bool, true, false, eqb, ltb, ◌≢◌, ◌⊎◌, List, [], ◌∷◌, length, get_or, set, Option, sym, refl, ap, ◌∙◌, subst, inl, inr, ⊎_elim, arith, Some}
 use Rattle.std.proofs.lemmas.List.{get_or-set_same, get_or-set_other, set-get_or}
 use Rattle.std.proofs.lemmas.Bool.{eqb-true, eq-eqb, cases_eq, both_ways}
 use Rattle.plan.specs.Plans.{width, patience}
 use Rattle.plan.specs.declared.check.ShelfType.TheVariants.{Block}
 use Rattle.shelf.specs.Meaning.{Own}
 use Rattle.shelf.proofs.Basics.{own_apart, own_below}
-use Rattle.block_rules.specs.declared.parts.Hold.TheVariants.{On}
 use Rattle.block_rules.specs.declared.parts.LinkState.{LinkState}
 use Rattle.block_rules.specs.declared.parts.Access.{Access}
 use Rattle.block_rules.specs.declared.parts.Access.TheVariants.{ReadCurrent, SetGuard, Compare, ReadBlock}
@@ -25,16 +24,16 @@ channel_in s (Taking j e ReadCurrent) c = e ≡ c
 channel_in s (Taking j e SetGuard) c = e ≡ c
 channel_in s (Taking j e Compare) c = e ≡ c
 channel_in s (Taking j e ReadBlock) c = ⊥
-channel_in s (Putting j h) c = (link s j).hold ≡ On c
+channel_in s (Putting j h) c = (link s j).hold ≡ Some c
 channel_in s (Scanning j k) c = ⊥
-channel_in s (Checking j) c = (link s j).hold ≡ On c
+channel_in s (Checking j) c = (link s j).hold ≡ Some c
 
 -- party p's turn brings a put into force on a live link of channel c
 pub record PutsLive {R : Type 0} (s : State R) (p c : ℕ) : Type 0 where
   pub on_link : ℕ
   pub block : ℕ
   pub putting : (party s p).job ≡ Putting on_link block
-  pub held : (link s on_link).hold ≡ On c
+  pub held : (link s on_link).hold ≡ Some c
   pub alive : current_of s c ≡ (link s on_link).seen
 
 take_most : (a : Access) (t : Bool) → take_left a t ≤ 6
@@ -215,7 +214,7 @@ module _ {R : Type 0} (s : State R) (ok : Sound s) (p : ℕ) (in_p : p < s.plan.
         q' : Party
         q' = retiring (party s p) j (link s j).seen
 
-        on_c : (link s j).hold ≡ On c
+        on_c : (link s j).hold ≡ Some c
         on_c = o.held
 
         elsewhere : ((i e' : ℕ) (a : Access) → (party s q).job ≡ Taking i e' a → (e' ≡ c → ⊥) ⊎ (a ≡ ReadBlock)) → turns_left (changed s s.row (set s.current c h) s.links p q') q ≤ turns_left s q

@@ -1,12 +1,11 @@
 -- Every block of the need has one place.
-use Rattle.std.proofs.Common.{◌≡◌, ℕ, suc, ◌+◌, ◌<◌, ◌≤◌, Bool, true, false, cond, ◌||◌, eqb, ◌⊎◌, List, [], ◌∷◌, length, get_or, sum_by, sym, refl, ap, subst, inl, inr, ⊎_elim, arith}
+use Rattle.std.proofs.Common.{◌≡◌, ℕ, suc, ◌+◌, ◌<◌, ◌≤◌, Bool, true, false, cond, ◌||◌, eqb, ◌⊎◌, List, [], ◌∷◌, length, get_or, sum_by, sym, refl, ap, subst, inl, inr, ⊎_elim, arith, Some}
 use Rattle.std.proofs.lemmas.List.Sums.{sum_by-cons, get_or-le-sum_by}
 use Rattle.std.proofs.lemmas.Bool.{eqb-true, eqb-false, cases_eq, cases_lt, lt-ltb, false≢true, true≢false}
 use Rattle.std.proofs.lemmas.Bool.Decides.{nat_tests}
 use Rattle.plan.specs.Plans.{width, need}
 use Rattle.plan.specs.declared.check.ShelfType.TheVariants.{Block}
 use Rattle.shelf.specs.Calls.{known}
-use Rattle.block_rules.specs.declared.parts.Hold.TheVariants.{On}
 use Rattle.block_rules.specs.declared.parts.Job.{Job}
 use Rattle.block_rules.specs.declared.parts.Job.TheVariants.{Idle, Taking, Putting, Scanning, Checking}
 use Rattle.block_rules.specs.declared.parts.Place.{Place}
@@ -20,19 +19,19 @@ use Rattle.block_rules.proofs.Frame.{current_not_with, once_with, free_with_lem,
 
 pub among_yes : (b : ℕ) (xs : List ℕ) → among b xs ≡ true → 1 ≤ times b xs
 among_yes b [] e = absurd (false≢true e)
-among_yes b (x ∷ xs) e = go (eqb b x) refl e (among_yes b xs)
+among_yes b (x ∷ xs) e = go (eqb x b) refl e (among_yes b xs)
   where
-    go : (t : Bool) → eqb b x ≡ t → (t || among b xs) ≡ true → (among b xs ≡ true → 1 ≤ times b xs) → 1 ≤ times b (x ∷ xs)
-    go true k _ ih = omega (arith, times_cons b x xs, ap (same b) (eqb-true b x k), same_self b)
+    go : (t : Bool) → eqb x b ≡ t → (t || among b xs) ≡ true → (among b xs ≡ true → 1 ≤ times b xs) → 1 ≤ times b (x ∷ xs)
+    go true k _ ih = omega (arith, times_cons b x xs, ap (same b) (eqb-true x b k), same_self b)
     go false k h ih = omega (arith, times_cons b x xs, ih h)
 
 pub among_not : (b : ℕ) (xs : List ℕ) → among b xs ≡ false → times b xs ≡ 0
 among_not b [] e = times_nil b
-among_not b (x ∷ xs) e = go (eqb b x) refl e (among_not b xs)
+among_not b (x ∷ xs) e = go (eqb x b) refl e (among_not b xs)
   where
-    go : (t : Bool) → eqb b x ≡ t → (t || among b xs) ≡ false → (among b xs ≡ false → times b xs ≡ 0) → times b (x ∷ xs) ≡ 0
+    go : (t : Bool) → eqb x b ≡ t → (t || among b xs) ≡ false → (among b xs ≡ false → times b xs ≡ 0) → times b (x ∷ xs) ≡ 0
     go true k h ih = absurd (true≢false h)
-    go false k h ih = omega (arith, times_cons b x xs, ih h, same_other b x (eqb-false b x k))
+    go false k h ih = omega (arith, times_cons b x xs, ih h, same_other b x (λ e. eqb-false x b k (sym e)))
 
 -- a block that stands in a list or with a party is found there
 find_block : (b : ℕ) (xs : List ℕ) → (times b xs ≡ 0) ⊎ ((i : ℕ) × (i < length xs) × (get_or xs i 0 ≡ b))
@@ -156,7 +155,7 @@ placed s ok = record {
 }
 
 -- what a link holds nobody has ready or in hand
-pub safe : {R : Type 0} (s : State R) → Sound s → (j c : ℕ) → j < width s.plan → (link s j).hold ≡ On c → Safe s j
+pub safe : {R : Type 0} (s : State R) → Sound s → (j c : ℕ) → j < width s.plan → (link s j).hold ≡ Some c → Safe s j
 safe s ok j c h e =
     let o = ok.held j h c e in
     let b = (link s j).seen in

@@ -1,5 +1,5 @@
 -- What starting, dropping and looking mean.
-use Rattle.std.proofs.Common.{◌≡◌, ℕ, ◌<◌, ◌≤◌, eqb, ◌≢◌, List, [], ◌∷◌, map, length, get_or, set, sym, refl, ap, ◌∙◌, subst, ⊎_elim, arith}
+use Rattle.std.proofs.Common.{◌≡◌, ℕ, ◌<◌, ◌≤◌, eqb, ◌≢◌, List, [], ◌∷◌, map, length, get_or, set, sym, refl, ap, ◌∙◌, subst, ⊎_elim, arith, Some, None, Option}
 use Rattle.std.proofs.lemmas.List.{get_or-set_same, get_or-set_other, map-set}
 use Rattle.std.proofs.lemmas.List.Sums.{get_or-le-sum_by}
 use Rattle.std.proofs.lemmas.Bool.{cases_eq}
@@ -7,8 +7,6 @@ use Rattle.std.proofs.lemmas.Bool.Decides.{nat_tests}
 use Rattle.plan.specs.Plans.{width, need}
 use Rattle.plan.specs.declared.check.ShelfType.TheVariants.{Block}
 use Rattle.shelf.specs.Meaning.{vacant, holds, put, check, waits, does, linking, take as take_op}
-use Rattle.block_rules.specs.declared.parts.Hold.{Hold}
-use Rattle.block_rules.specs.declared.parts.Hold.TheVariants.{Empty, On}
 use Rattle.block_rules.specs.declared.parts.Access.TheVariants.{ReadCurrent, SetGuard, Compare, ReadBlock}
 use Rattle.block_rules.specs.declared.parts.Job.{Job}
 use Rattle.block_rules.specs.declared.parts.Job.TheVariants.{Idle, Taking, Putting, Scanning, Checking}
@@ -37,7 +35,7 @@ module _ {R : Type 0} (d : R) (s : State R) (ok : Sound s) (p : ℕ) (in_p : p <
     not_current : (c : ℕ) → c < length s.current → current_of s c ≢ h
     not_current c hc e = omega (arith, current_not_with s h (sound_once s ok h) p in_parties (subst (λ b. 1 ≤ times b s.current) e (times_at s.current c hc)), with_p)
 
-    pub not_seen : (i c : ℕ) → i < width s.plan → (link s i).hold ≡ On c → (link s i).seen ≢ h
+    pub not_seen : (i c : ℕ) → i < width s.plan → (link s i).hold ≡ Some c → (link s i).seen ≢ h
     not_seen i c hi on_c e = omega (arith, subst (λ b. free s b ≡ 0) e (ok.held i hi c on_c).not_free, free_with_lem s h (sound_once s ok h) p in_parties, with_p)
 
     not_in_hand : (q j g : ℕ) → q < length s.parties → (party s q).job ≡ Putting j g → g ≢ h
@@ -63,9 +61,9 @@ module _ {R : Type 0} (d : R) (s : State R) (ok : Sound s) (p : ℕ) (in_p : p <
     activity_same r q hq (Scanning j k) e = refl
     activity_same r q hq (Checking j) e = refl
 
-    link_same : (r : R) (i : ℕ) → i < width s.plan → (st : Hold) → (link s i).hold ≡ st → link_of d (set s.row h r) s.current (link s i).seen st ≡ link_of d s.row s.current (link s i).seen st
-    link_same r i hi Empty e = refl
-    link_same r i hi (On c) e = ap (λ x. holds c x (eqb (get_or s.current c 0) (link s i).seen)) (get_or-set_other s.row h (link s i).seen r d (not_seen i c hi e))
+    link_same : (r : R) (i : ℕ) → i < width s.plan → (st : Option ℕ) → (link s i).hold ≡ st → link_of d (set s.row h r) s.current (link s i).seen st ≡ link_of d s.row s.current (link s i).seen st
+    link_same r i hi None e = refl
+    link_same r i hi (Some c) e = ap (λ x. holds c x (eqb (get_or s.current c 0) (link s i).seen)) (get_or-set_other s.row h (link s i).seen r d (not_seen i c hi e))
 
     put_means : (j : ℕ) (r : R) → means d (put_from s p j r (h ∷ rest)) ≡ does (means d s) p (waits (put j r))
     put_means j r = same_meaning _ _ _ _ _ _

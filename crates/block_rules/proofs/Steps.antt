@@ -1,13 +1,12 @@
 -- Every step keeps what `Sound` says.
-use Rattle.std.proofs.Common.{◌≡◌, ℕ, ◌+◌, ◌<◌, ◌≤◌, Bool, true, false, eqb, ltb, ◌⊎◌, List, [], ◌∷◌, reverse, length, get_or, set, Some, None, Option, sym, refl, ap, ◌∙◌, subst, inl, inr, ⊎_elim, arith}
+use Rattle.std.proofs.Common.{◌≡◌, ℕ, ◌+◌, ◌<◌, ◌≤◌, Bool, true, false, eqb, ltb, ◌⊎◌, List, [], ◌∷◌, not, reverse, length, get_or, set, Some, None, Option, sym, refl, ap, ◌∙◌, subst, inl, inr, ⊎_elim, arith}
 use Rattle.std.proofs.lemmas.List.{length-set, get_or-set_same, get_or-set_other, length-append, length-reverse, length_push, set-get_or}
+use Rattle.std.proofs.lemmas.List.Filters.{length-filter_both}
 use Rattle.std.proofs.lemmas.Bool.{eqb-true, cases_eq, cases_lt, ltb-true, ltb-false}
 use Rattle.plan.specs.Plans.{width, need}
 use Rattle.plan.specs.declared.check.ShelfType.TheVariants.{Block}
 use Rattle.shelf.specs.Meaning.{Own}
 use Rattle.shelf.proofs.Basics.{own_below}
-use Rattle.block_rules.specs.declared.parts.Hold.{Hold}
-use Rattle.block_rules.specs.declared.parts.Hold.TheVariants.{Empty, On}
 use Rattle.block_rules.specs.declared.parts.LinkState.{LinkState}
 use Rattle.block_rules.specs.declared.parts.Access.{Access}
 use Rattle.block_rules.specs.declared.parts.Access.TheVariants.{ReadCurrent, SetGuard, Compare, ReadBlock}
@@ -16,17 +15,17 @@ use Rattle.block_rules.specs.declared.parts.Job.TheVariants.{Idle, Taking, Putti
 use Rattle.block_rules.specs.Blocks.{share, Party, in_hand, State, unused, nobody, link, party, current_of, with_job, emptied, seeing, guarding, holding, channel_held, is_live, start_take, taken_up, put_from, start_put, start_check, dropped, compared, turn_take, after_put, retiring, missing, turn_put, among, noted, noting, unread, freeing, turn_scan, turn_job, turned}
 use Rattle.block_rules.specs.Counting.{same, times, stands_with, free_with, standings}
 use Rattle.block_rules.specs.Sound.{LinkOk, JobOk, PartyOk, Sound}
-use Rattle.block_rules.proofs.Counts.{same_self, times_nil, times_cons, times_one, times_append, times_push, times_reverse, times_set, times_at, freed_parts, freed_lengths, freed_none, few_held}
+use Rattle.block_rules.proofs.Counts.{same_self, times_nil, times_cons, times_one, times_append, times_push, times_reverse, times_set, times_at, freed_parts, freed_none, few_held}
 use Rattle.block_rules.proofs.Frame.{current_not_free, once_with, sound_once, changed, free_after, keeps}
 
-pub empty_not_on : (c : ℕ) → Empty ≡ On c → ⊥
-empty_not_on c e = let z : ◌≡◌ {A = ℕ} 0 1 = cc in omega arith
+pub none_not_some : (c : ℕ) → None ≡ Some c → ⊥
+none_not_some c e = cc
 
-pub on_same : (c d : ℕ) → On c ≡ On d → c ≡ d
-on_same c d e = cc
+pub some_same : (c d : ℕ) → Some c ≡ Some d → c ≡ d
+some_same c d e = cc
 
-pub on_itself : (st : Hold) (c : ℕ) → st ≡ On c → st ≡ On (channel_held st)
-on_itself st c e = e ∙ ap On (sym (ap channel_held e))
+pub some_itself : (st : Option ℕ) (c : ℕ) → st ≡ Some c → st ≡ Some (channel_held st)
+some_itself st c e = e ∙ ap Some (sym (ap channel_held e))
 
 module _ {R : Type 0} (s : State R) (ok : Sound s) (p : ℕ) (in_p : p < s.plan.parties) where
   pub task_at : (job : Job) → (party s p).job ≡ job → JobOk s p (party s p) job
@@ -56,7 +55,7 @@ module _ {R : Type 0} (s : State R) (ok : Sound s) (p : ℕ) (in_p : p < s.plan.
 
   -- a link of the party changes, and its job
   relinked : (j : ℕ) (l' : LinkState) (q' : Party) → Own s.plan p j → ((b : ℕ) → stands_with b q' ≡ stands_with b (party s p)) → ((b : ℕ) → free_with b q' ≡ free_with b (party s p)) →
-      LinkOk s l' → ((c : ℕ) → l'.hold ≡ On c → (((link s j).hold ≡ On c) × ((link s j).seen ≡ l'.seen)) ⊎ (1 ≤ times l'.seen s.current)) →
+      LinkOk s l' → ((c : ℕ) → l'.hold ≡ Some c → (((link s j).hold ≡ Some c) × ((link s j).seen ≡ l'.seen)) ⊎ (1 ≤ times l'.seen s.current)) →
       PartyOk (changed s s.row s.current (set s.links j l') p q') p q' → Sound (changed s s.row s.current (set s.links j l') p q')
   relinked j l' q' own moves frees ok' stays job = keeps s ok p in_p s.row s.current (set s.links j l') q' (record {
     rows = refl;
@@ -79,7 +78,7 @@ module _ {R : Type 0} (s : State R) (ok : Sound s) (p : ℕ) (in_p : p < s.plan.
       t = changed s s.row s.current (set s.links j l') p q'
 
       Stays : ℕ → ℕ → LinkState → Type 0
-      Stays c i l = l.hold ≡ On c → (((link s i).hold ≡ On c) × ((link s i).seen ≡ l.seen)) ⊎ (1 ≤ times l.seen s.current)
+      Stays c i l = l.hold ≡ Some c → (((link s i).hold ≡ Some c) × ((link s i).seen ≡ l.seen)) ⊎ (1 ≤ times l.seen s.current)
 
       at_j : get_or (set s.links j l') j unused ≡ l'
       at_j = get_or-set_same s.links j l' unused (omega (arith, own_below s.plan p j in_p own, ok.links))
@@ -107,28 +106,28 @@ module _ {R : Type 0} (s : State R) (ok : Sound s) (p : ℕ) (in_p : p < s.plan.
   pub sound_take : (j c : ℕ) → (party s p).job ≡ Idle → Own s.plan p j → c < s.plan.channels → Sound (start_take s p j c)
   sound_take j c e own h = relinked j (emptied (link s j)) (with_job (party s p) (Taking j c ReadCurrent)) own
       (same_stands Idle (Taking j c ReadCurrent) e (λ b. refl)) (same_frees Idle (Taking j c ReadCurrent) e (λ b. refl))
-      (λ d k. absurd (empty_not_on d k)) (λ d k. absurd (empty_not_on d k))
+      (λ d k. absurd (none_not_some d k)) (λ d k. absurd (none_not_some d k))
       (record { size = size_at Idle e; task = record { spare = task_at Idle e; own = own; channel = h; stage = ap (λ l. l.hold) (tied_at j (emptied (link s j)) own) } })
 
-  pub sound_check : (j c : ℕ) → (party s p).job ≡ Idle → Own s.plan p j → (link s j).hold ≡ On c → Sound (start_check s p j)
+  pub sound_check : (j c : ℕ) → (party s p).job ≡ Idle → Own s.plan p j → (link s j).hold ≡ Some c → Sound (start_check s p j)
   sound_check j c e own h = quiet s.row (with_job (party s p) (Checking j)) refl
       (same_stands Idle (Checking j) e (λ b. refl)) (λ b. omega (arith, same_frees Idle (Checking j) e (λ x. refl) b))
-      (record { size = size_at Idle e; task = record { spare = task_at Idle e; own = own; held = on_itself (link s j).hold c h } })
+      (record { size = size_at Idle e; task = record { spare = task_at Idle e; own = own; held = some_itself (link s j).hold c h } })
 
-  sound_put_from : (j c : ℕ) (r : R) → (party s p).job ≡ Idle → Own s.plan p j → (link s j).hold ≡ On c → (xs : List ℕ) → (party s p).ready ≡ xs → Sound (put_from s p j r xs)
+  sound_put_from : (j c : ℕ) (r : R) → (party s p).job ≡ Idle → Own s.plan p j → (link s j).hold ≡ Some c → (xs : List ℕ) → (party s p).ready ≡ xs → Sound (put_from s p j r xs)
   sound_put_from j c r e own h [] x = ok
   sound_put_from j c r e own h (b ∷ rest) x = quiet (set s.row b r) (taken_up (party s p) j b rest) (length-set s.row b r)
       (λ a. omega (arith, ap (times a) x, times_cons a b rest, times_one a b, times_nil a, ap (λ y. times a (in_hand y)) e))
       (λ a. omega (arith, ap (times a) x, times_cons a b rest, times_one a b, times_nil a, ap (λ y. times a (in_hand y)) e))
-      (record { size = omega (arith, size_at Idle e, ap length x); task = record { own = own; held = on_itself (link s j).hold c h } })
+      (record { size = omega (arith, size_at Idle e, ap length x); task = record { own = own; held = some_itself (link s j).hold c h } })
 
-  pub sound_put : (j c : ℕ) (r : R) → (party s p).job ≡ Idle → Own s.plan p j → (link s j).hold ≡ On c → Sound (start_put s p j r)
+  pub sound_put : (j c : ℕ) (r : R) → (party s p).job ≡ Idle → Own s.plan p j → (link s j).hold ≡ Some c → Sound (start_put s p j r)
   sound_put j c r e own h = sound_put_from j c r e own h (party s p).ready refl
 
   pub sound_drop : (j : ℕ) → (party s p).job ≡ Idle → Own s.plan p j → Sound (dropped s j)
   sound_drop j e own = subst (λ (x : List Party). Sound (record { plan = s.plan; row = s.row; current = s.current; links = set s.links j (emptied (link s j)); parties = x })) (set-get_or s.parties p nobody)
       (relinked j (emptied (link s j)) (party s p) own (λ b. refl) (λ b. refl)
-      (λ d k. absurd (empty_not_on d k)) (λ d k. absurd (empty_not_on d k))
+      (λ d k. absurd (none_not_some d k)) (λ d k. absurd (none_not_some d k))
       (record { size = (ok.jobs p in_p).size; task = subst (JobOk (changed s s.row s.current (set s.links j (emptied (link s j))) p (party s p)) p (party s p)) (sym e) (task_at Idle e) }))
 
   -- ** turns of a take
@@ -148,7 +147,7 @@ module _ {R : Type 0} (s : State R) (ok : Sound s) (p : ℕ) (in_p : p < s.plan.
       let now : 1 ≤ times b s.current = subst (λ x. 1 ≤ times x s.current) (eqb-true (current_of s c) b k) (current_at c o.channel) in
       relinked j l' (with_job (party s p) (Taking j c ReadBlock)) o.own
       (same_stands (Taking j c Compare) (Taking j c ReadBlock) e (λ x. refl)) (same_frees (Taking j c Compare) (Taking j c ReadBlock) e (λ x. refl))
-      (λ d h. record { channel = subst (λ x. x < s.plan.channels) (on_same c d h) o.channel; guarded = o.stage.1; not_free = current_not_free s b (sound_once s ok b) now; known = current_known b now })
+      (λ d h. record { channel = subst (λ x. x < s.plan.channels) (some_same c d h) o.channel; guarded = o.stage.1; not_free = current_not_free s b (sound_once s ok b) now; known = current_known b now })
       (λ d h. inr now)
       (record { size = size_at (Taking j c Compare) e; task = record { spare = o.spare; own = o.own; channel = o.channel; stage = ap (λ l. l.hold) (tied_at j l' o.own) } })
   sound_compared j c e false k =
@@ -163,15 +162,15 @@ module _ {R : Type 0} (s : State R) (ok : Sound s) (p : ℕ) (in_p : p < s.plan.
       let l' : LinkState = seeing (link s j) (current_of s c) in
       relinked j l' (with_job (party s p) (Taking j c SetGuard)) o.own
       (same_stands (Taking j c ReadCurrent) (Taking j c SetGuard) e (λ x. refl)) (same_frees (Taking j c ReadCurrent) (Taking j c SetGuard) e (λ x. refl))
-      (λ d k. absurd (empty_not_on d (sym o.stage ∙ k))) (λ d k. absurd (empty_not_on d (sym o.stage ∙ k)))
+      (λ d k. absurd (none_not_some d (sym o.stage ∙ k))) (λ d k. absurd (none_not_some d (sym o.stage ∙ k)))
       (record { size = size_at (Taking j c ReadCurrent) e; task = record { spare = o.spare; own = o.own; channel = o.channel; stage = ap (λ l. l.hold) (tied_at j l' o.own) ∙ o.stage } })
   sound_turn_take j c SetGuard e =
       let o = task_at (Taking j c SetGuard) e in
       let l' : LinkState = guarding (link s j) in
       relinked j l' (with_job (party s p) (Taking j c Compare)) o.own
       (same_stands (Taking j c SetGuard) (Taking j c Compare) e (λ x. refl)) (same_frees (Taking j c SetGuard) (Taking j c Compare) e (λ x. refl))
-      (λ d k. absurd (empty_not_on d (sym o.stage ∙ k))) (λ d k. absurd (empty_not_on d (sym o.stage ∙ k)))
-      (record { size = size_at (Taking j c SetGuard) e; task = record { spare = o.spare; own = o.own; channel = o.channel; stage = subst (λ l. (l.hold ≡ Empty) × (l.guard ≡ Some l.seen)) (sym (tied_at j l' o.own)) (o.stage, refl) } })
+      (λ d k. absurd (none_not_some d (sym o.stage ∙ k))) (λ d k. absurd (none_not_some d (sym o.stage ∙ k)))
+      (record { size = size_at (Taking j c SetGuard) e; task = record { spare = o.spare; own = o.own; channel = o.channel; stage = subst (λ l. (l.hold ≡ None) × (l.guard ≡ Some l.seen)) (sym (tied_at j l' o.own)) (o.stage, refl) } })
   sound_turn_take j c Compare e = sound_compared j c e (eqb (current_of s c) (link s j).seen) refl
   sound_turn_take j c ReadBlock e =
       let o = task_at (Taking j c ReadBlock) e in
@@ -239,7 +238,7 @@ module _ {R : Type 0} (s : State R) (ok : Sound s) (p : ℕ) (in_p : p < s.plan.
     read' : List ℕ
     read' = noted (link s k).guard (party s p).read
 
-    met' : (i c : ℕ) → i < k + 1 → (link s i).hold ≡ On c → 1 ≤ times (link s i).seen (party s p).retired → 1 ≤ times (link s i).seen read'
+    met' : (i c : ℕ) → i < k + 1 → (link s i).hold ≡ Some c → 1 ≤ times (link s i).seen (party s p).retired → 1 ≤ times (link s i).seen read'
     unfolding read'
     met' i c h on_c m =
         let o = task_at (Scanning j k) e in
@@ -289,8 +288,8 @@ module _ {R : Type 0} (s : State R) (ok : Sound s) (p : ℕ) (in_p : p < s.plan.
               };
           stays = λ i d hi ei. inl (ei, refl);
           job = record {
-            size = omega (arith, size_at (Scanning j k) e, freed_lengths (λ x. among x rd) old, length-append (reverse (unread rd old)) (party s p).ready, length-reverse (unread rd old));
-            task = omega (arith, size_at (Scanning j k) e, o.none, o.few, o.within, noted_length (link s k).guard (party s p).read, few_held rd old (λ b. omega (arith, once_with s b (sound_once s ok b) p (omega (arith, in_p, ok.parties)))), freed_lengths (λ x. among x rd) old, length-append (reverse (unread rd old)) (party s p).ready, length-reverse (unread rd old));
+            size = omega (arith, size_at (Scanning j k) e, length-filter_both (λ x. among x rd) (λ x. not (among x rd)) (λ _. refl) old, length-append (reverse (unread rd old)) (party s p).ready, length-reverse (unread rd old));
+            task = omega (arith, size_at (Scanning j k) e, o.none, o.few, o.within, noted_length (link s k).guard (party s p).read, few_held rd old (λ b. omega (arith, once_with s b (sound_once s ok b) p (omega (arith, in_p, ok.parties)))), length-filter_both (λ x. among x rd) (λ x. not (among x rd)) (λ _. refl) old, length-append (reverse (unread rd old)) (party s p).ready, length-reverse (unread rd old));
           };
         })
 

@@ -1,13 +1,11 @@
 -- A turn changes the meaning only as ideal LL, SC and VL allow.
-use Rattle.std.proofs.Common.{◌≡◌, ℕ, suc, ◌+◌, ◌<◌, Bool, true, false, cond, eqb, ltb, ◌≢◌, List, [], ◌∷◌, map, length, get_or, set, Option, sym, refl, ap, ◌∙◌, subst, ⊎_elim, arith}
+use Rattle.std.proofs.Common.{◌≡◌, ℕ, suc, ◌+◌, ◌<◌, Bool, true, false, cond, eqb, ltb, ◌≢◌, List, [], ◌∷◌, map, length, get_or, set, Option, sym, refl, ap, ◌∙◌, subst, ⊎_elim, arith, Some, None}
 use Rattle.std.proofs.lemmas.List.{get_or-set_same, get_or-set_other, set-get_or, length-map, map-set, get_or-map, set-set}
 use Rattle.std.proofs.lemmas.Bool.{eqb-true, eq-eqb, ne_eqb, cases_eq}
 use Rattle.plan.specs.Plans.{width}
 use Rattle.shelf.specs.declared.answer.Answer.TheVariants.{Run, Taken, Stored, Missed, Live, Broken}
 use Rattle.shelf.specs.Meaning.{Own, Link, vacant, holds, put, check, Activity, idle, in_force, Meaning, link_at, activity_of, does, break_on, put_on, verdict, brought, Turned, alters_nothing, comes, ends, comes_and_ends, take as take_op}
 use Rattle.shelf.proofs.Basics.{own_below}
-use Rattle.block_rules.specs.declared.parts.Hold.{Hold}
-use Rattle.block_rules.specs.declared.parts.Hold.TheVariants.{Empty, On}
 use Rattle.block_rules.specs.declared.parts.LinkState.{LinkState}
 use Rattle.block_rules.specs.declared.parts.Access.{Access}
 use Rattle.block_rules.specs.declared.parts.Access.TheVariants.{ReadCurrent, SetGuard, Compare, ReadBlock}
@@ -53,7 +51,7 @@ module _ {R : Type 0} (d : R) (s : State R) (ok : Sound s) (p : ℕ) (in_p : p <
   activity_at : (job : Job) → (party s p).job ≡ job → activity_of (means d s) p ≡ activity_in d s.row job
   activity_at job e = get_or-map (activity_from d s.row) s.parties p nobody idle in_parties ∙ ap (activity_in d s.row) e
 
-  link_at_lem : (j : ℕ) → j < length s.links → (st : Hold) → (link s j).hold ≡ st → link_at (means d s) j ≡ link_of d s.row s.current (link s j).seen st
+  link_at_lem : (j : ℕ) → j < length s.links → (st : Option ℕ) → (link s j).hold ≡ st → link_at (means d s) j ≡ link_of d s.row s.current (link s j).seen st
   link_at_lem j h st e = get_or-map (link_from d s.row s.current) s.links j unused vacant h ∙ ap (link_of d s.row s.current (link s j).seen) e
 
   -- the activities after a change of the party
@@ -64,7 +62,7 @@ module _ {R : Type 0} (d : R) (s : State R) (ok : Sound s) (p : ℕ) (in_p : p <
   activities_same job q' e h = map_set_same (activity_from d s.row) s.parties p q' nobody in_parties (h ∙ sym (ap (activity_in d s.row) e))
 
   -- a link that is empty before and after
-  links_same : (j : ℕ) (l' : LinkState) → j < length s.links → (link s j).hold ≡ Empty → l'.hold ≡ Empty → map (link_from d s.row s.current) (set s.links j l') ≡ map (link_from d s.row s.current) s.links
+  links_same : (j : ℕ) (l' : LinkState) → j < length s.links → (link s j).hold ≡ None → l'.hold ≡ None → map (link_from d s.row s.current) (set s.links j l') ≡ map (link_from d s.row s.current) s.links
   links_same j l' h e e' = map_set_same (link_from d s.row s.current) s.links j l' unused h (ap (link_of d s.row s.current l'.seen) e' ∙ sym (ap (link_of d s.row s.current (link s j).seen) e))
 
   set_twice : {X : Type 0} (xs : List X) (i : ℕ) (a b : X) → set (set xs i a) i b ≡ set xs i b
@@ -105,7 +103,7 @@ module _ {R : Type 0} (d : R) (s : State R) (ok : Sound s) (p : ℕ) (in_p : p <
   -- ** a put
 
   -- the block in hand is no link's
-  hand_apart : (j h : ℕ) → (party s p).job ≡ Putting j h → (i c : ℕ) → i < width s.plan → (link s i).hold ≡ On c → h ≢ (link s i).seen
+  hand_apart : (j h : ℕ) → (party s p).job ≡ Putting j h → (i c : ℕ) → i < width s.plan → (link s i).hold ≡ Some c → h ≢ (link s i).seen
   hand_apart j h e i c hi on_c is =
       let o = ok.held i hi c on_c in
       let b = (link s i).seen in
@@ -118,9 +116,9 @@ module _ {R : Type 0} (d : R) (s : State R) (ok : Sound s) (p : ℕ) (in_p : p <
       (λ i hi. each i (omega (arith, hi, ok.links)) (link s i).hold refl)
       ∙ sym (map_after (break_on c) (link_from d s.row s.current) s.links)
     where
-      each : (i : ℕ) → i < width s.plan → (st : Hold) → (link s i).hold ≡ st → link_of d s.row (set s.current c h) (link s i).seen st ≡ break_on c (link_of d s.row s.current (link s i).seen st)
-      each i hi Empty k = refl
-      each i hi (On a) k = ⊎_elim
+      each : (i : ℕ) → i < width s.plan → (st : Option ℕ) → (link s i).hold ≡ st → link_of d s.row (set s.current c h) (link s i).seen st ≡ break_on c (link_of d s.row s.current (link s i).seen st)
+      each i hi None k = refl
+      each i hi (Some a) k = ⊎_elim
           (λ (is : a ≡ c). ap (holds a (get_or s.row (link s i).seen d))
           ((ap (λ x. eqb (get_or (set s.current c h) x 0) (link s i).seen) is ∙ ap (λ x. eqb x (link s i).seen) (get_or-set_same s.current c h 0 in_c) ∙ ne_eqb h (link s i).seen (hand_apart j h e i a hi k))
           ∙ sym (ap (λ x. cond x false (eqb (get_or s.current a 0) (link s i).seen)) (eq-eqb a c is))))
@@ -129,16 +127,16 @@ module _ {R : Type 0} (d : R) (s : State R) (ok : Sound s) (p : ℕ) (in_p : p <
           (cases_eq a c)
 
   -- the meaning of a put in force, whatever the answer
-  put_brought : (j h c : ℕ) → (party s p).job ≡ Putting j h → (link s j).hold ≡ On c → j < length s.links → (t : Bool) → eqb (current_of s c) (link s j).seen ≡ t →
+  put_brought : (j h c : ℕ) → (party s p).job ≡ Putting j h → (link s j).hold ≡ Some c → j < length s.links → (t : Bool) → eqb (current_of s c) (link s j).seen ≡ t →
       brought d (means d s) p (put j (get_or s.row h d)) ≡ put_on (means d s) p (get_or s.row h d) (holds c (get_or s.row (link s j).seen d) t)
-  put_brought j h c e on_c in_j t k = ap (put_on (means d s) p (get_or s.row h d)) (link_at_lem j in_j (On c) on_c ∙ ap (holds c (get_or s.row (link s j).seen d)) k)
+  put_brought j h c e on_c in_j t k = ap (put_on (means d s) p (get_or s.row h d)) (link_at_lem j in_j (Some c) on_c ∙ ap (holds c (get_or s.row (link s j).seen d)) k)
 
   put_law : (j h : ℕ) → (party s p).job ≡ Putting j h → (t : Bool) → is_live s j ≡ t → (xs : List ℕ) → (party s p).ready ≡ xs →
       Turned d (means d s) p (cond t (after_put_answer xs) Missed) (means d (turn_put s p j h t))
   put_law j h e true k [] x =
       let o = task_at s ok p in_p (Putting j h) e in
       let c = channel_held (link s j).hold in
-      let on_c : (link s j).hold ≡ On c = o.held in
+      let on_c : (link s j).hold ≡ Some c = o.held in
       let in_j = in_links j o.own in
       let in_c : c < length s.current = omega (arith, (ok.held j (own_below s.plan p j in_p o.own) c on_c).channel, ok.currents) in
       let r = get_or s.row h d in
@@ -151,7 +149,7 @@ module _ {R : Type 0} (d : R) (s : State R) (ok : Sound s) (p : ℕ) (in_p : p <
   put_law j h e true k (b ∷ bs) x =
       let o = task_at s ok p in_p (Putting j h) e in
       let c = channel_held (link s j).hold in
-      let on_c : (link s j).hold ≡ On c = o.held in
+      let on_c : (link s j).hold ≡ Some c = o.held in
       let in_j = in_links j o.own in
       let in_c : c < length s.current = omega (arith, (ok.held j (own_below s.plan p j in_p o.own) c on_c).channel, ok.currents) in
       let r = get_or s.row h d in
@@ -165,7 +163,7 @@ module _ {R : Type 0} (d : R) (s : State R) (ok : Sound s) (p : ℕ) (in_p : p <
   put_law j h e false k xs x =
       let o = task_at s ok p in_p (Putting j h) e in
       let c = channel_held (link s j).hold in
-      let on_c : (link s j).hold ≡ On c = o.held in
+      let on_c : (link s j).hold ≡ Some c = o.held in
       let in_j = in_links j o.own in
       let r = get_or s.row h d in
       let ds = map (activity_from d s.row) s.parties in
@@ -182,11 +180,11 @@ module _ {R : Type 0} (d : R) (s : State R) (ok : Sound s) (p : ℕ) (in_p : p <
   check_law j e t k =
       let o = task_at s ok p in_p (Checking j) e in
       let c = channel_held (link s j).hold in
-      let on_c : (link s j).hold ≡ On c = o.held in
+      let on_c : (link s j).hold ≡ Some c = o.held in
       let in_j = in_links j o.own in
       let ds = map (activity_from d s.row) s.parties in
       let l = link_at (means d s) j in
-      let is : l ≡ holds c (get_or s.row (link s j).seen d) t = link_at_lem j in_j (On c) on_c ∙ ap (holds c (get_or s.row (link s j).seen d)) k in
+      let is : l ≡ holds c (get_or s.row (link s j).seen d) t = link_at_lem j in_j (Some c) on_c ∙ ap (holds c (get_or s.row (link s j).seen d)) k in
       subst (Turned d (means d s) p (cond t Live Broken))
       (sym (same_meaning _ _ _ _ _ _ refl refl (activities_to (with_job (party s p) Idle) ∙ sym (set_twice ds p (in_force (verdict l)) idle))))
       (comes_and_ends (check j) (cond t Live Broken) (activity_at (Checking j) e) (get_or-set_same ds p (in_force (verdict l)) idle in_activities ∙ ap in_force (ap verdict is ∙ verdict_is t (get_or s.row (link s j).seen d) c)))

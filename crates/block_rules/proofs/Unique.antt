@@ -1,5 +1,5 @@
 -- A state is sound in one way at most, so `Sound` may stand in a ghost field, truncated, and be taken out again.
-use Rattle.std.proofs.Common.{◌≡◌, ℕ, Some, None, Option, refl, ap, arith}
+use Rattle.std.proofs.Common.{◌≡◌, ℕ, Some, None, Option, refl, ap}
 use mathlib.Core.Logic.{∥∥₁_elim}
 use mathlib.Core.HLevel.{hedberg, ×_prop}
 use native.Mathlib.Nat.{ℕ_set}
@@ -7,8 +7,6 @@ use native.Mathlib.Bridge.{le_prop}
 use native.Mathlib.Decide.{ℕ_discrete}
 use Rattle.plan.specs.declared.check.Plan.{Plan}
 use Rattle.shelf.specs.Meaning.{Own}
-use Rattle.block_rules.specs.declared.parts.Hold.{Hold}
-use Rattle.block_rules.specs.declared.parts.Hold.TheVariants.{Empty, On}
 use Rattle.block_rules.specs.declared.parts.LinkState.{LinkState}
 use Rattle.block_rules.specs.declared.parts.Access.{Access}
 use Rattle.block_rules.specs.declared.parts.Access.TheVariants.{ReadCurrent, SetGuard, Compare, ReadBlock}
@@ -19,44 +17,21 @@ use Rattle.block_rules.specs.Sound.{Held, AccessOk, JobOk, Sound}
 
 option_discrete : (a b : Option ℕ) → Dec (a ≡ b)
 option_discrete None None = yes refl
-option_discrete None (Some y) = no (λ e. let z : ◌≡◌ {A = ℕ} 0 1 = cc in omega arith)
-option_discrete (Some x) None = no (λ e. let z : ◌≡◌ {A = ℕ} 0 1 = cc in omega arith)
-option_discrete (Some x) (Some y) = go (ℕ_discrete x y)
-  where
-    go : Dec (x ≡ y) → Dec (Some x ≡ Some y)
-    go (yes e) = yes (ap Some e)
-    go (no n) = no (λ e. n (inside e))
-      where
-        inside : Some x ≡ Some y → x ≡ y
-        inside e = cc
+option_discrete None (Some y) = no (λ e. cc)
+option_discrete (Some x) None = no (λ e. cc)
+option_discrete (Some x) (Some y) = elim (ℕ_discrete x y) [ yes e ↦ yes (ap Some e) | no n ↦ no (λ e. n (cc)) ]
 
 option_set : IsSet (Option ℕ)
 option_set = hedberg option_discrete
-
-hold_discrete : (a b : Hold) → Dec (a ≡ b)
-hold_discrete Empty Empty = yes refl
-hold_discrete Empty (On y) = no (λ e. let z : ◌≡◌ {A = ℕ} 0 1 = cc in omega arith)
-hold_discrete (On x) Empty = no (λ e. let z : ◌≡◌ {A = ℕ} 0 1 = cc in omega arith)
-hold_discrete (On x) (On y) = go (ℕ_discrete x y)
-  where
-    go : Dec (x ≡ y) → Dec (On x ≡ On y)
-    go (yes e) = yes (ap On e)
-    go (no n) = no (λ e. n (inside e))
-      where
-        inside : On x ≡ On y → x ≡ y
-        inside e = cc
-
-hold_set : IsSet Hold
-hold_set = hedberg hold_discrete
 
 own_prop : (pl : Plan) (p j : ℕ) → IsProp (Own pl p j)
 own_prop pl p j x y = λ i. record { from = le_prop x.from y.from i; to = le_prop x.to y.to i }
 
 access_prop : (l : LinkState) (c : ℕ) (a : Access) → IsProp (AccessOk l c a)
-access_prop l c ReadCurrent = hold_set _ _
-access_prop l c SetGuard = hold_set _ _
-access_prop l c Compare = ×_prop (hold_set _ _) (option_set _ _)
-access_prop l c ReadBlock = hold_set _ _
+access_prop l c ReadCurrent = option_set _ _
+access_prop l c SetGuard = option_set _ _
+access_prop l c Compare = ×_prop (option_set _ _) (option_set _ _)
+access_prop l c ReadBlock = option_set _ _
 
 module _ {R : Type 0} (s : State R) where
   held_prop : (l : LinkState) (c : ℕ) → IsProp (Held s l c)
@@ -65,7 +40,7 @@ module _ {R : Type 0} (s : State R) where
   job_prop : (p : ℕ) (q : Party) (job : Job) → IsProp (JobOk s p q job)
   job_prop p q Idle x y = le_prop x y
   job_prop p q (Taking j c a) x y = λ i. record { spare = le_prop x.spare y.spare i; own = own_prop s.plan p j x.own y.own i; channel = le_prop x.channel y.channel i; stage = access_prop (link s j) c a x.stage y.stage i }
-  job_prop p q (Putting j h) x y = λ i. record { own = own_prop s.plan p j x.own y.own i; held = hold_set _ _ x.held y.held i }
+  job_prop p q (Putting j h) x y = λ i. record { own = own_prop s.plan p j x.own y.own i; held = option_set _ _ x.held y.held i }
   job_prop p q (Scanning j k) x y = λ i. record {
     own = own_prop s.plan p j x.own y.own i;
     within = le_prop x.within y.within i;
@@ -73,7 +48,7 @@ module _ {R : Type 0} (s : State R) where
     few = le_prop x.few y.few i;
     met = λ a c h e m. le_prop (x.met a c h e m) (y.met a c h e m) i;
   }
-  job_prop p q (Checking j) x y = λ i. record { spare = le_prop x.spare y.spare i; own = own_prop s.plan p j x.own y.own i; held = hold_set _ _ x.held y.held i }
+  job_prop p q (Checking j) x y = λ i. record { spare = le_prop x.spare y.spare i; own = own_prop s.plan p j x.own y.own i; held = option_set _ _ x.held y.held i }
 
   pub sound_prop : IsProp (Sound s)
   sound_prop x y = λ i. record {

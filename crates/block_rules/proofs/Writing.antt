@@ -1,5 +1,5 @@
 -- What calls write: nothing but blocks that were ready, so no block that a link holds and none beyond the need.
-use Rattle.std.proofs.Common.{◌≡◌, ℕ, ◌<◌, ◌≤◌, List, [], ◌∷◌, get_or, sym, refl, ap, ◌∙◌, subst, ⊎_elim, arith}
+use Rattle.std.proofs.Common.{◌≡◌, ℕ, ◌<◌, ◌≤◌, List, [], ◌∷◌, get_or, sym, refl, ap, ◌∙◌, subst, ⊎_elim, arith, Some}
 use Rattle.std.specs.List.{AllByRecursion}
 use Rattle.std.proofs.lemmas.List.{get_or-set_other, get_or_past}
 use Rattle.std.proofs.lemmas.Bool.{cases_lt, ltb-true}
@@ -12,7 +12,6 @@ use Rattle.shelf.specs.Laws.{caller_of}
 use Rattle.shelf.specs.Beyond.{Untouched}
 use Rattle.shelf.proofs.Always.{row_same, row_written}
 use Rattle.shelf.proofs.Passing.{Passed, Ways, all_pass, one_refuses, ways}
-use Rattle.block_rules.specs.declared.parts.Hold.TheVariants.{On}
 use Rattle.block_rules.specs.declared.parts.LinkState.{LinkState}
 use Rattle.block_rules.specs.declared.parts.Place.TheVariants.{Ready}
 use Rattle.block_rules.specs.Blocks.{State, unused, link, party, put_from}
@@ -24,7 +23,7 @@ use Rattle.block_rules.proofs.AsShelf.{block_shelf_rules}
 use Rattle.block_rules.proofs.Counts.{same_self, times_cons}
 use Rattle.block_rules.proofs.Kept.{turn_same}
 use Rattle.block_rules.proofs.Placed.{placed_known, safe}
-use Rattle.block_rules.proofs.Steps.{empty_not_on}
+use Rattle.block_rules.proofs.Steps.{none_not_some}
 
 module _ {R : Type 0} (d : R) (s : State R) (ok : Sound s) where
   put_writes : (p j : ℕ) (r : R) → p < s.plan.parties → (xs : List ℕ) → (party s p).ready ≡ xs → Writes s p (put_from s p j r xs).row
@@ -54,15 +53,15 @@ module _ {R : Type 0} (d : R) (s : State R) (ok : Sound s) where
       by (ready_block b r in_p h e) = row_written (need Block s.plan) s.row (after (block_shelf_rules d) s k).row b r (placed_known s ok b (Ready (caller_of k)) (in_p, h)) e
 
   -- a link that holds something is one that is there
-  held_within : (j c : ℕ) → (link s j).hold ≡ On c → j < width s.plan
+  held_within : (j c : ℕ) → (link s j).hold ≡ Some c → j < width s.plan
   held_within j c e = ⊎_elim (λ (h : j < width s.plan). h)
-      (λ (h : width s.plan ≤ j). absurd (empty_not_on c (sym (ap (λ (l : LinkState). l.hold) (get_or_past s.links j unused (omega (arith, h, ok.links)))) ∙ e)))
+      (λ (h : width s.plan ≤ j). absurd (none_not_some c (sym (ap (λ (l : LinkState). l.hold) (get_or_past s.links j unused (omega (arith, h, ok.links)))) ∙ e)))
       (cases_lt j (width s.plan))
 
-  pub held_safe : (j c : ℕ) → (link s j).hold ≡ On c → Safe s j
+  pub held_safe : (j c : ℕ) → (link s j).hold ≡ Some c → Safe s j
   held_safe j c e = safe s ok j c (held_within j c e) e
 
-  pub call_spares : (k : Call R) (j c : ℕ) → (link s j).hold ≡ On c → get_or (after (block_shelf_rules d) s k).row (link s j).seen d ≡ get_or s.row (link s j).seen d
+  pub call_spares : (k : Call R) (j c : ℕ) → (link s j).hold ≡ Some c → get_or (after (block_shelf_rules d) s k).row (link s j).seen d ≡ get_or s.row (link s j).seen d
   call_spares k j c on_c = by (after (block_shelf_rules d) s k).row (caller_of k) (call_writes k)
     where
       by : (row : List R) (p : ℕ) → Writes s p row → get_or row (link s j).seen d ≡ get_or s.row (link s j).seen d

@@ -1,14 +1,13 @@
 -- The exact rules of the block shelf: its state, and what each accepted call makes of it.
 -- A link is given by its number among the links of all parties; the guards in the order of a scan are the links in list order.
-use Rattle.std.specs.Prelude.{ℕ, zero, suc, ◌+◌, Bool, true, false, cond, not, ◌||◌, List, [], ◌∷◌, ◌++◌, reverse, length, drop, replicate, Some, None, filter, Option, ◌==◌, nat_lt, slice_index, slice_index_or, slice_set}
+use Rattle.std.specs.Prelude.{ℕ, zero, suc, ◌+◌, Bool, true, false, if◌then◌else◌, not, List, [], ◌∷◌, ◌++◌, reverse, length, drop, replicate, Some, None, filter, Option, ◌==◌, nat_lt, slice_index, slice_index_or, slice_set, unwrap_or}
+use Rattle.std.specs.List.{range_with_len, list_any}
 use Rattle.plan.specs.Plans.{width, need, plan_verdict}
 use Rattle.plan.specs.Refusals.{Outcome, accepted, refused}
 use Rattle.plan.specs.declared.check.Plan.{Plan}
 use Rattle.plan.specs.declared.check.ShelfType.TheVariants.{Block}
 use Rattle.shelf.specs.declared.answer.Answer.{Answer}
 use Rattle.shelf.specs.declared.answer.Answer.TheVariants as answers
-use Rattle.block_rules.specs.declared.parts.Hold.{Hold}
-use Rattle.block_rules.specs.declared.parts.Hold.TheVariants.{Empty, On}
 use Rattle.block_rules.specs.declared.parts.LinkState.{LinkState}
 use Rattle.block_rules.specs.declared.parts.Access.{Access}
 use Rattle.block_rules.specs.declared.parts.Access.TheVariants.{ReadCurrent, SetGuard, Compare, ReadBlock}
@@ -45,7 +44,7 @@ abbrev pub state_of : {R : Type 0} → Plan → List R → List ℕ → List Lin
 state_of plan row current links parties = record { plan = plan; row = row; current = current; links = links; parties = parties }
 
 abbrev pub unused : LinkState
-unused = record { seen = 0; guard = None; hold = Empty }
+unused = record { seen = 0; guard = None; hold = None }
 
 abbrev pub nobody : Party
 nobody = record { ready = []; retired = []; read = []; job = Idle }
@@ -61,9 +60,9 @@ current_of s c = slice_index s.current c
 
 -- ** the making
 
+-- the n blocks from a on
 abbrev pub blocks_from : ℕ → ℕ → List ℕ
-blocks_from a zero = []
-blocks_from a (suc n) = a ∷ blocks_from (a + 1) n
+blocks_from a n = range_with_len a n
 
 -- a party that owns the m blocks from a on, all ready, the lowest on top
 abbrev pub fresh_party : ℕ → ℕ → Party
@@ -99,7 +98,7 @@ abbrev pub with_both : {R : Type 0} → State R → ℕ → LinkState → ℕ �
 with_both s j l p q = state_of s.plan s.row s.current (slice_set s.links j l) (slice_set s.parties p q)
 
 abbrev pub emptied : LinkState → LinkState
-emptied l = record { seen = l.seen; guard = None; hold = Empty }
+emptied l = record { seen = l.seen; guard = None; hold = None }
 
 abbrev pub seeing : LinkState → ℕ → LinkState
 seeing l b = record { seen = b; guard = l.guard; hold = l.hold }
@@ -108,15 +107,10 @@ abbrev pub guarding : LinkState → LinkState
 guarding l = record { seen = l.seen; guard = Some l.seen; hold = l.hold }
 
 abbrev pub holding : LinkState → ℕ → LinkState
-holding l c = record { seen = l.seen; guard = l.guard; hold = On c }
+holding l c = record { seen = l.seen; guard = l.guard; hold = Some c }
 
-abbrev pub channel_held : Hold → ℕ
-channel_held Empty = 0
-channel_held (On c) = c
-
-abbrev pub is_held : Hold → Bool
-is_held Empty = false
-is_held (On c) = true
+abbrev pub channel_held : Option ℕ → ℕ
+channel_held hold = unwrap_or hold 0
 
 abbrev pub rests : Job → Bool
 rests Idle = true
@@ -187,8 +181,7 @@ turn_put s p j h false = with_party s p (missing (party s p) h)
 -- ** a turn of a scan
 
 abbrev pub among : ℕ → List ℕ → Bool
-among b [] = false
-among b (x ∷ xs) = b == x || among b xs
+among b xs = list_any (λ x. x == b) xs
 
 abbrev pub noted : Option ℕ → List ℕ → List ℕ
 noted None read = read
@@ -239,9 +232,9 @@ after_put_answer (b ∷ bs) = answers.Stored
 abbrev pub answer_job : {R : Type 0} → State R → ℕ → Job → Answer
 answer_job s p Idle = answers.Run
 answer_job s p (Taking j c a) = take_answer a
-answer_job s p (Putting j h) = cond (is_live s j) (after_put_answer (party s p).ready) answers.Missed
-answer_job s p (Scanning j k) = cond (nat_lt (k + 1) (width s.plan)) answers.Run answers.Stored
-answer_job s p (Checking j) = cond (is_live s j) answers.Live answers.Broken
+answer_job s p (Putting j h) = if is_live s j then after_put_answer (party s p).ready else answers.Missed
+answer_job s p (Scanning j k) = if nat_lt (k + 1) (width s.plan) then answers.Run else answers.Stored
+answer_job s p (Checking j) = if is_live s j then answers.Live else answers.Broken
 
 abbrev pub answer : {R : Type 0} → State R → ℕ → Answer
 answer s p = answer_job s p (party s p).job

@@ -1,9 +1,9 @@
 -- How often a block stands where.
-use Rattle.std.specs.Prelude.{ℕ, ◌+◌, cond, List, sum_by, ◌==◌, nat_lt}
+use Rattle.std.specs.Prelude.{ℕ, ◌+◌, if◌then◌else◌, List, sum_by, ◌==◌, nat_lt}
 use Rattle.block_rules.specs.Blocks.{Party, in_hand, State}
 
 abbrev pub same : ℕ → ℕ → ℕ
-same b x = cond (b == x) 1 0
+same b x = if b == x then 1 else 0
 
 -- how often block b stands in a list
 unfoldable pub times : ℕ → List ℕ → ℕ
@@ -26,4 +26,4 @@ free s b = sum_by (free_with b) s.parties
 
 -- once if b is below n, else never
 abbrev pub below : ℕ → ℕ → ℕ
-below b n = cond (nat_lt b n) 1 0
+below b n = if nat_lt b n then 1 else 0

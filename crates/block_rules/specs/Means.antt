@@ -1,10 +1,8 @@
 -- What a state of the block shelf means, and the turns that a running operation may still spend.
-use Rattle.std.specs.Prelude.{ℕ, ◌+◌, ◌-◌, Bool, true, false, List, [], ◌∷◌, map, ◌==◌, slice_index, slice_index_or}
+use Rattle.std.specs.Prelude.{ℕ, ◌+◌, ◌-◌, Bool, true, false, List, [], ◌∷◌, map, ◌==◌, slice_index, slice_index_or, Some, None, Option}
 use Rattle.plan.specs.Plans.{width}
 use Rattle.shelf.specs.declared.answer.Answer.TheVariants as answers
 use Rattle.shelf.specs.Meaning.{Link, vacant, holds, Activity, idle, waits, in_force, take as take_op, put, check, Meaning}
-use Rattle.block_rules.specs.declared.parts.Hold.{Hold}
-use Rattle.block_rules.specs.declared.parts.Hold.TheVariants.{Empty, On}
 use Rattle.block_rules.specs.declared.parts.LinkState.{LinkState}
 use Rattle.block_rules.specs.declared.parts.Access.{Access}
 use Rattle.block_rules.specs.declared.parts.Access.TheVariants.{ReadCurrent, SetGuard, Compare, ReadBlock}
@@ -14,9 +12,9 @@ use Rattle.block_rules.specs.Blocks.{Party, State, link, party, current_of}
 
 module _ {R : Type 0} (d : R) where
   -- a link's reading is what its seen block holds; it is live while that block is its channel's current one
-  abbrev pub link_of : List R → List ℕ → ℕ → Hold → Link R
-  link_of row current b Empty = vacant
-  link_of row current b (On c) = holds c (slice_index_or row b d) (slice_index current c == b)
+  abbrev pub link_of : List R → List ℕ → ℕ → Option ℕ → Link R
+  link_of row current b None = vacant
+  link_of row current b (Some c) = holds c (slice_index_or row b d) (slice_index current c == b)
 
   abbrev pub link_from : List R → List ℕ → LinkState → Link R
   link_from row current l = link_of row current l.seen l.hold

@@ -1,9 +1,8 @@
 -- The states that a block shelf can be in.
-use Rattle.std.specs.Prelude.{◌≡◌, ℕ, ◌+◌, ◌<◌, ◌≤◌, length, Some}
+use Rattle.std.specs.Prelude.{◌≡◌, ℕ, ◌+◌, ◌<◌, ◌≤◌, length, Some, None}
 use Rattle.plan.specs.Plans.{width, need, Small}
 use Rattle.plan.specs.declared.check.ShelfType.TheVariants.{Block}
 use Rattle.shelf.specs.Meaning.{Own}
-use Rattle.block_rules.specs.declared.parts.Hold.TheVariants.{Empty, On}
 use Rattle.block_rules.specs.declared.parts.LinkState.{LinkState}
 use Rattle.block_rules.specs.declared.parts.Access.{Access}
 use Rattle.block_rules.specs.declared.parts.Access.TheVariants.{ReadCurrent, SetGuard, Compare, ReadBlock}
@@ -20,13 +19,13 @@ pub record Held {R : Type 0} (s : State R) (l : LinkState) (c : ℕ) : Type 0 wh
   pub known : l.seen < need Block s.plan
 
 abbrev pub LinkOk : {R : Type 0} → State R → LinkState → Type 0
-LinkOk s l = (c : ℕ) → l.hold ≡ On c → Held s l c
+LinkOk s l = (c : ℕ) → l.hold ≡ Some c → Held s l c
 
 abbrev pub AccessOk : LinkState → ℕ → Access → Type 0
-AccessOk l c ReadCurrent = l.hold ≡ Empty
-AccessOk l c SetGuard = l.hold ≡ Empty
-AccessOk l c Compare = (l.hold ≡ Empty) × (l.guard ≡ Some l.seen)
-AccessOk l c ReadBlock = l.hold ≡ On c
+AccessOk l c ReadCurrent = l.hold ≡ None
+AccessOk l c SetGuard = l.hold ≡ None
+AccessOk l c Compare = (l.hold ≡ None) × (l.guard ≡ Some l.seen)
+AccessOk l c ReadBlock = l.hold ≡ Some c
 
 pub record TakeOk {R : Type 0} (s : State R) (p : ℕ) (q : Party) (j c : ℕ) (a : Access) : Type 0 where
   pub spare : 1 ≤ length q.ready
@@ -36,7 +35,7 @@ pub record TakeOk {R : Type 0} (s : State R) (p : ℕ) (q : Party) (j c : ℕ) (
 
 pub record PutOk {R : Type 0} (s : State R) (p j : ℕ) : Type 0 where
   pub own : Own s.plan p j
-  pub held : (link s j).hold ≡ On (channel_held (link s j).hold)
+  pub held : (link s j).hold ≡ Some (channel_held (link s j).hold)
 
 -- k guards are read: if one of those links holds a block that the party retired, then the block was read
 pub record ScanOk {R : Type 0} (s : State R) (p : ℕ) (q : Party) (j k : ℕ) : Type 0 where
@@ -44,12 +43,12 @@ pub record ScanOk {R : Type 0} (s : State R) (p : ℕ) (q : Party) (j k : ℕ) :
   pub within : k < width s.plan
   pub none : length q.ready ≡ 0
   pub few : length q.read ≤ k
-  pub met : (i c : ℕ) → i < k → (link s i).hold ≡ On c → 1 ≤ times (link s i).seen q.retired → 1 ≤ times (link s i).seen q.read
+  pub met : (i c : ℕ) → i < k → (link s i).hold ≡ Some c → 1 ≤ times (link s i).seen q.retired → 1 ≤ times (link s i).seen q.read
 
 pub record CheckOk {R : Type 0} (s : State R) (p : ℕ) (q : Party) (j : ℕ) : Type 0 where
   pub spare : 1 ≤ length q.ready
   pub own : Own s.plan p j
-  pub held : (link s j).hold ≡ On (channel_held (link s j).hold)
+  pub held : (link s j).hold ≡ Some (channel_held (link s j).hold)
 
 -- a party has a ready block, but while its put runs
 abbrev pub JobOk : {R : Type 0} → State R → ℕ → Party → Job → Type 0

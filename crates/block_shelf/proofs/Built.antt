@@ -1,22 +1,22 @@
 -- The making of a block shelf, on the lists that its fields hold.
-use Rattle.std.proofs.Common.{◌≡◌, ℕ, zero, suc, ◌+◌, ◌-◌, ◌*◌, ◌<◌, ◌≤◌, min, Bool, cond, ltb, List, [], ◌∷◌, ◌++◌, map, reverse, length, drop, replicate, sym, ap, ◌∙◌, subst, arith}
-use Rattle.std.proofs.lemmas.List.{map-append}
-use Rattle.std.proofs.lemmas.Nat.{mul-le}
-use Rattle.plan.specs.Plans.{width, need, plan_verdict, Small}
-use Rattle.plan.specs.Refusals.{Outcome, accepted, refused}
+use Rattle.std.proofs.Common.{◌≡◌, ℕ, zero, suc, ◌+◌, ◌-◌, ◌*◌, ◌<◌, ◌≤◌, min, List, [], ◌∷◌, ◌++◌, map, reverse, length, drop, replicate, Ok, Err, Result, None, sym, refl, ap, ◌∙◌, subst, arith}
+use Rattle.std.proofs.lemmas.List.FromFn.{length-range_with_len}
+use Rattle.std.proofs.lemmas.List.{map-append, length-reverse, reverse-append}
+use Rattle.plan.specs.Plans.{width, need, plan_verdict}
+use Rattle.std.specs.Result.{ResultUnwrapsOrElse}
+use Rattle.plan.specs.Refusals.{Outcome, accepted, refused, told}
+use Rattle.plan.specs.declared.refusal.Refusal.{Refusal}
 use Rattle.plan.specs.declared.check.Plan.{Plan}
 use Rattle.plan.specs.declared.check.ShelfType.TheVariants.{Block}
 use Rattle.shelf.specs.Rules.{Fresh}
-use Rattle.shelf.proofs.Ranges.{plan_accepted, range_small}
+use Rattle.shelf.proofs.Ranges.{plan_accepted}
 use Rattle.block_parts.specs.declared.seat.Seat.{Seat}
 use Rattle.block_parts.specs.Seats.{party_of}
 use Rattle.block_rules.specs.declared.parts.LinkState.{LinkState}
-use Rattle.block_rules.specs.Blocks.{share, Party, State, state_of, unused, blocks_from, fresh_party, fresh_parties, no_plan, made_by, made}
+use Rattle.block_rules.specs.Blocks.{share, Party, State, state_of, unused, blocks_from, fresh_party, fresh_parties, no_plan, made_by, made, fresh}
 use Rattle.block_rules.specs.Sound.{Sound}
 use Rattle.block_rules.proofs.AsShelf.{block_shelf_rules}
-use Rattle.block_rules.proofs.Fresh.{length_blocks}
 use Rattle.block_rules.proofs.Made.{nothing_sound, made_fresh}
-use Rattle.block_parts.proofs.Stacks.{topped}
 
 -- ** one more
 
@@ -44,69 +44,71 @@ parties_more a m n xs ys q e k is =
     ap (map party_of) k ∙ (map-append party_of xs (q ∷ []) ∙ (ap (λ (zs : List Party). zs ++ (party_of q ∷ [])) e
     ∙ (ap (λ (x : Party). fresh_parties a m n ++ (x ∷ [])) is ∙ sym (ap (fresh_parties a m) one ∙ parties_suc a m n))))
 
--- one block more is ready, below those that are
-pub ready_more : (first count i : ℕ) → i < count → count ≤ 97 → (xs ys : List ℕ) (t : Bool) → reverse xs ≡ blocks_from (first + (count - i)) i
-    → t ≡ ltb (length xs) 97 → ys ≡ cond t (xs ++ ((first + (count - 1 - i)) ∷ [])) xs → reverse ys ≡ blocks_from (first + (count - (i + 1))) (i + 1)
-ready_more first count i h few xs ys t inv in_room list =
-    let b = first + (count - 1 - i) in
-    let one : i + 1 ≡ suc i = omega arith in
-    let top : first + (count - 1 - i) ≡ first + (count - (i + 1)) = omega arith in
-    let next : first + (count - i) ≡ first + (count - (i + 1)) + 1 = omega (arith, h) in
-    topped xs ys b t in_room list (omega (arith, ap length inv, length_blocks (first + (count - i)) i))
-    ∙ (ap (λ (zs : List ℕ). b ∷ zs) inv
-    ∙ (ap (λ (x : ℕ). x ∷ blocks_from (first + (count - i)) i) top
-    ∙ (ap (λ (x : ℕ). (first + (count - (i + 1))) ∷ blocks_from x i) next ∙ sym (ap (blocks_from (first + (count - (i + 1)))) one))))
+-- one block more is ready, on top of those that are
+pub ready_more : (b end : ℕ) (xs ys : List ℕ) → 0 < b → b ≤ end → reverse xs ≡ blocks_from b (end - b) → ys ≡ xs ++ ((b - 1) ∷ []) → reverse ys ≡ blocks_from (b - 1) (end - (b - 1))
+ready_more b end xs ys low high inv list =
+    let one : end - (b - 1) ≡ suc (end - b) = omega arith in
+    let next : b - 1 + 1 ≡ b = omega arith in
+    ap reverse list ∙ (reverse-append xs ((b - 1) ∷ []) ∙ (ap (λ (zs : List ℕ). (b - 1) ∷ zs) inv
+    ∙ sym (ap (blocks_from (b - 1)) one ∙ ap (λ (x : ℕ). (b - 1) ∷ blocks_from x (end - b)) next)))
 
--- ** the numbers fit
+pub ready_length : (b n : ℕ) (xs : List ℕ) → reverse xs ≡ blocks_from b n → length xs ≡ n
+ready_length b n xs e = sym (length-reverse xs) ∙ (ap length e ∙ length-range_with_len b n)
 
-module _ (pl : Plan) (small : Small pl) (n w : ℕ) (in_n : n < pl.parties) (is : w ≡ width pl) where
-  most : w ≤ 96
-  most = omega (arith, is, mul-le pl.parties pl.links 24 4 small.parties small.links)
-
-  pub seats_fit : pl.channels + n * (w + 1) + (w + 1) < 65536
-  seats_fit = omega (arith, small.channels, most, mul-le n (w + 1) 24 97 (omega (arith, in_n, small.parties)) (omega (arith, most)))
-
-  pub share_fits : w + 1 ≤ 97
-  share_fits = omega (arith, most)
+pub all_ready : (first count b : ℕ) (xs : List ℕ) → (first ≤ b) × (reverse xs ≡ blocks_from b (first + count - b)) → b ≤ first → reverse xs ≡ blocks_from first count
+all_ready first count b xs inv h =
+    let same : b ≡ first = omega (arith, inv.0) in
+    let all : first + count - b ≡ count = omega arith in
+    inv.1 ∙ (ap (blocks_from b) all ∙ ap (λ x. blocks_from x count) same)
 
 -- ** the whole
 
+unused_is : (l : LinkState) → (l.seen ≡ 0) × ((l.guard ≡ None) × (l.hold ≡ None)) → l ≡ unused
+unused_is l e = λ i. record { seen = e.0 i; guard = e.1.0 i; hold = e.1.1 i }
+
+-- the plan that was checked, or one without parties
+abbrev pub Chosen : Result Plan Refusal → Plan → Type 0
+Chosen r given = ResultUnwrapsOrElse r (λ x. (x.parties ≡ 0) × ((x.links ≡ 0) × (x.channels ≡ 0))) given
+
+no_plan_is : (x : Plan) → (x.parties ≡ 0) × ((x.links ≡ 0) × (x.channels ≡ 0)) → x ≡ no_plan
+no_plan_is x e = λ i. record { parties = e.0 i; links = e.1.0 i; channels = e.1.1 i }
+
 module _ {R : Type 0} (d : R) (pl : Plan) (row : List R) where
-  module _ (blocks : ℕ) (b : blocks ≡ length row) where
-    checked : {o : Outcome Plan} → o ≡ plan_verdict pl Block blocks → o ≡ plan_verdict pl Block (length row)
-    checked e = e ∙ ap (plan_verdict pl Block) b
+  module _ (r : Result Plan Refusal) (e : told r ≡ plan_verdict pl Block (length row)) (given : Plan) (u : Chosen r given) where
+    -- what is blanked is the need
+    all_blanked : (n : ℕ) → n ≡ need Block given → min n (length row) ≡ need Block given
+    all_blanked n q = go r e u
+      where
+        go : (o : Result Plan Refusal) → told o ≡ plan_verdict pl Block (length row) → Chosen o given → min n (length row) ≡ need Block given
+        go (Ok x) k c =
+            let t = plan_accepted pl Block (length row) x k in
+            omega (arith, q, subst (λ (y : Plan). need Block y ≤ length row) (sym (c ∙ t.same)) t.enough)
+        go (Err x) k c = omega (arith, q, ap (need Block) (no_plan_is given c))
 
-    module _ (given : Plan) (e : accepted given ≡ plan_verdict pl Block blocks) where
-      pub given_small : Small given
-      given_small = let t = plan_accepted pl Block (length row) given (checked e) in subst Small (sym t.same) (range_small pl t.in_range)
+    given_made : fresh given (replicate (need Block given) d ++ drop (need Block given) row) ≡ made d pl row
+    given_made = go r e u
+      where
+        go : (o : Result Plan Refusal) → told o ≡ plan_verdict pl Block (length row) → Chosen o given → fresh given (replicate (need Block given) d ++ drop (need Block given) row) ≡ made d pl row
+        go (Ok x) k c = ap (λ (y : Plan). fresh y (replicate (need Block y) d ++ drop (need Block y) row)) c ∙ ap (made_by d row) k
+        go (Err x) k c = ap (λ (y : Plan). fresh y (replicate (need Block y) d ++ drop (need Block y) row)) (no_plan_is given c) ∙ ap (made_by d row) k
 
-      -- the blanked blocks are those of the need
-      pub all_blanked : (n : ℕ) → n ≡ need Block given → min n (length row) ≡ need Block given
-      all_blanked n q =
-          let t = plan_accepted pl Block (length row) given (checked e) in
-          omega (arith, q, subst (λ (x : Plan). need Block x ≤ length row) (sym t.same) t.enough)
+    pub made_state : (n : ℕ) → n ≡ need Block given → (row' : List R) → row' ≡ replicate (min n (length row)) d ++ drop (min n (length row)) row → (current : List ℕ) → current ≡ blocks_from 0 given.channels
+        → (k : ℕ) → k ≡ width given → (l : LinkState) → (l.seen ≡ 0) × ((l.guard ≡ None) × (l.hold ≡ None)) → (links : List LinkState) → links ≡ replicate k l
+        → (parties : List Party) → parties ≡ fresh_parties given.channels (share given) given.parties → state_of given row' current links parties ≡ made d pl row
+    made_state n needed row' blocks current c k all l blank links ls parties ps =
+        let rows = blocks ∙ ap (λ (m : ℕ). replicate m d ++ drop m row) (all_blanked n needed) in
+        let linked = ls ∙ (ap (λ (m : ℕ). replicate m l) all ∙ ap (replicate (width given)) (unused_is l blank)) in
+        (λ i. state_of given (rows i) (c i) (linked i) (ps i)) ∙ given_made
 
-      pub made_state : (row' : List R) (current : List ℕ) (links : List LinkState) (parties : List Party) → row' ≡ replicate (need Block given) d ++ drop (need Block given) row
-          → current ≡ blocks_from 0 given.channels → links ≡ replicate (width given) unused → parties ≡ fresh_parties given.channels (share given) given.parties
-          → state_of given row' current links parties ≡ made d pl row
-      made_state row' current links parties r c l p =
-          (λ i. state_of given (r i) (c i) (l i) (p i)) ∙ ap (made_by d row) (checked e)
+  made_is_sound : Sound (made d pl row)
+  made_is_sound = go (plan_verdict pl Block (length row)) refl
+    where
+      go : (o : Outcome Plan) → plan_verdict pl Block (length row) ≡ o → Sound (made_by d row o)
+      go (accepted x) k = subst (λ (o : Outcome Plan). Sound (made_by d row o)) k (made_fresh d pl row x (sym k)).is_sound
+      go (refused n) k = nothing_sound d row
 
-      pub made_sound : (t : State R) → t ≡ made d pl row → ∥ Sound t ∥₁
-      made_sound t q = ∣ subst Sound (sym q) (made_fresh d pl row given (checked e)).is_sound ∣₁
-
-      pub not_refused : (n : ℕ) → refused n ≡ plan_verdict pl Block (length row) → ⊥
-      not_refused n q = let both : accepted given ≡ refused n = checked e ∙ sym q in let z : ◌≡◌ {A = ℕ} 0 1 = cc in omega arith
-
-    module _ (current : List ℕ) (links : List LinkState) (seats : List Seat) (c : current ≡ []) (l : links ≡ []) (q : seats ≡ []) where
-      empty_state : state_of no_plan row current links (map party_of seats) ≡ state_of no_plan row [] [] []
-      empty_state = λ i. state_of no_plan row (c i) (l i) (map party_of (q i))
-
-      pub none_state : (n : ℕ) → refused n ≡ plan_verdict pl Block blocks → state_of no_plan row current links (map party_of seats) ≡ made d pl row
-      none_state n e = empty_state ∙ ap (made_by d row) (checked e)
-
-      pub none_sound : ∥ Sound (state_of no_plan row current links (map party_of seats)) ∥₁
-      none_sound = ∣ subst Sound (sym empty_state) (nothing_sound d row) ∣₁
+  pub made_sound : (t : State R) → t ≡ made d pl row → ∥ Sound t ∥₁
+  made_sound t q = ∣ subst Sound (sym q) made_is_sound ∣₁
 
   -- whatever state is made, it is fresh if the check accepts
   pub fresh_made : (t : State R) → t ≡ made d pl row → (given : Plan) → accepted given ≡ plan_verdict pl Block (length row) → Fresh (block_shelf_rules d) t

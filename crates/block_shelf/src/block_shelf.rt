@@ -2,7 +2,6 @@ ghost use Rattle.block_rules.proofs.AsShelf.{block_shelf_rules};
 ghost use Rattle.block_shelf.specs.States.{block_state};
 
 use crate::block::BlockShelf;
-use block_parts::links::emptied;
 use block_rules::parts::{Access, Job};
 use plan::check::{Plan, ShelfType};
 use plan::refusal::Refusal;
@@ -36,7 +35,7 @@ impl<'a, R: Reading> Shelf for BlockShelf<'a, R> {
         if channel >= self.plan.channels {
             return Err(Refusal::NoSuchChannel);
         }
-        let empty = emptied(self.link(at));
+        let empty = self.link(at).emptied();
         self.set_link(
             party,
             at,
@@ -60,7 +59,7 @@ impl<'a, R: Reading> Shelf for BlockShelf<'a, R> {
 
     fn drop_link(&mut self, party: u8, link: u8) -> Result<(), Refusal> {
         let at = self.free_link(party, link)?;
-        let empty = emptied(self.link(at));
+        let empty = self.link(at).emptied();
         self.links[at] = empty;
         Ok(())
     }

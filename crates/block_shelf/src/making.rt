@@ -12,7 +12,7 @@ ghost use Rattle.block_shelf.specs.States.{block_state};
 use crate::block::BlockShelf;
 use block_parts::block_list::BlockList;
 use block_parts::seat::Seat;
-use block_rules::parts::{Hold, Job, LinkState};
+use block_rules::parts::{Job, LinkState};
 use plan::check::{Plan, ShelfType, check_plan};
 use reading::kind::Reading;
 use shelf::making::filled;
@@ -21,11 +21,12 @@ use std::alloc::{AllocError, Global};
 
 // The current blocks of fresh channels: channel c has block c.
 fn first_blocks(heap: Global, channels: u8) -> Result<Vec<u16>, AllocError>
-    ensures { IfOk result (λ v. v.items ≡ blocks_from 0 channels) }
+    ensures blocks { IfOk result (λ v. v.items ≡ blocks_from 0 channels) }
+    ensures succeeds { channels ≡ 0 → is_ok result ≡ true }
 {
     let mut list = Vec::new(heap);
     for channel in 0..channels {
-        list.push(channel as u16)?;
+        list.push(u16::from(channel))?;
     }
     Ok(list)
 }
@@ -37,8 +38,8 @@ fn fresh_seat(first: u16, count: u16) -> Seat
     ensures { party_of result ≡ fresh_party first count }
 {
     let mut ready = BlockList::new();
-    for i in 0..count {
-        ready.push(first + (count - 1 - i));
+    for block in (first..first + count).rev() {
+        ready.push(block);
     }
     Seat {
         ready,
@@ -51,12 +52,13 @@ fn fresh_seat(first: u16, count: u16) -> Seat
 // The seats of all parties, whose blocks stand behind those of the channels.
 fn fresh_seats(heap: Global, plan: Plan) -> Result<Vec<Seat>, AllocError>
     requires { Small plan }
-    ensures { IfOk result (λ v. map party_of v.items ≡ fresh_parties plan.channels (share plan) plan.parties) }
+    ensures seats { IfOk result (λ v. map party_of v.items ≡ fresh_parties plan.channels (share plan) plan.parties) }
+    ensures succeeds { plan.parties ≡ 0 → is_ok result ≡ true }
 {
     let share = plan.all_links() as u16 + 1;
     let mut seats = Vec::new(heap);
     for party in 0..plan.parties {
-        seats.push(fresh_seat(plan.channels as u16 + party as u16 * share, share))?;
+        seats.push(fresh_seat(u16::from(plan.channels) + u16::from(party) * share, share))?;
     }
     Ok(seats)
 }
@@ -68,47 +70,24 @@ impl<'a, R: Reading> BlockShelf<'a, R> {
     pub fn make(
         heap: Global,
         plan: Plan,
-        row: BlockRow<'a, R>,
+        mut row: BlockRow<'a, R>,
     ) -> Result<BlockShelf<'a, R>, AllocError>
         ensures state { IfOk result (λ s. block_state s ≡ made R.Reading.kind.blank plan row.entry.blocks.now) }
         ensures fresh { IfOk result (λ s. (given : PlanIn) → accepted given ≡ plan_verdict plan Block (length row.entry.blocks.now) → Fresh (block_shelf_rules R.Reading.kind.blank) (block_state s)) }
         ensures lent { IfOk result (λ s. s.row.blocks.ghost_name ≡ row.entry.blocks.ghost_name) }
         ensures succeeds { (n : ℕ) → refused n ≡ plan_verdict plan Block (length row.entry.blocks.now) → is_ok result ≡ true }
     {
-        match check_plan(plan, ShelfType::Block, row.len()) {
-            Ok(plan) => {
-                let current = first_blocks(heap, plan.channels)?;
-                let unused = LinkState {
-                    seen: 0,
-                    guard: None,
-                    hold: Hold::Empty,
-                };
-                let links = filled(heap, unused, plan.all_links())?;
-                let seats = fresh_seats(heap, plan)?;
-                let mut row = row;
-                row.blank_first(plan.blocks_needed(ShelfType::Block));
-                Ok(BlockShelf {
-                    plan,
-                    row,
-                    current,
-                    links,
-                    seats,
-                })
-            }
-            Err(_) => {
-                let plan = Plan {
-                    parties: 0,
-                    links: 0,
-                    channels: 0,
-                };
-                Ok(BlockShelf {
-                    plan,
-                    row,
-                    current: Vec::new(heap),
-                    links: Vec::new(heap),
-                    seats: Vec::new(heap),
-                })
-            }
-        }
+        let plan = check_plan(plan, ShelfType::Block, row.len()).unwrap_or_default();
+        let current = first_blocks(heap, plan.channels)?;
+        let links = filled(heap, LinkState::default(), plan.all_links())?;
+        let seats = fresh_seats(heap, plan)?;
+        row.blank_first(plan.blocks_needed(ShelfType::Block));
+        Ok(BlockShelf {
+            plan,
+            row,
+            current,
+            links,
+            seats,
+        })
     }
 }

@@ -19,25 +19,22 @@ impl<'a, R: Reading> BlockShelf<'a, R> {
     pub fn place(&self, block: usize) -> Result<Place, Refusal>
         ensures { PlaceTold (block_state self.now) block (told result) }
     {
-        if block > 65535 {
+        let Ok(block) = u16::try_from(block) else {
             return Err(Refusal::NoSuchBlock);
-        }
-        if let Some(channel) = self.channel_with(block as u16) {
+        };
+        if let Some(channel) = self.channel_with(block) {
             return Ok(Place::Current(channel));
         }
-        match self.place_with_party(block as u16) {
-            Some(place) => Ok(place),
-            None => Err(Refusal::NoSuchBlock),
-        }
+        self.place_with_party(block).ok_or(Refusal::NoSuchBlock)
     }
 
     // The channel of which the block is the current one.
     fn channel_with(&self, block: u16) -> Option<u8>
         ensures { ChannelTold (block_state self.now) block result }
     {
-        for channel in 0..self.plan.channels {
-            if self.current(channel) == block {
-                return Some(channel);
+        for (channel, current) in self.current.iter().enumerate() {
+            if *current == block {
+                return Some(channel as u8);
             }
         }
         None
@@ -47,8 +44,8 @@ impl<'a, R: Reading> BlockShelf<'a, R> {
     fn place_with_party(&self, block: u16) -> Option<Place>
         ensures { PartyTold (block_state self.now) block result }
     {
-        for party in 0..self.plan.parties {
-            if let Some(place) = self.seats[party as usize].place_of(party, block) {
+        for (party, seat) in self.seats.iter().enumerate() {
+            if let Some(place) = seat.place_of(party as u8, block) {
                 return Some(place);
             }
         }

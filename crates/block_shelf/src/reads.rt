@@ -7,8 +7,7 @@ ghost use Rattle.block_rules.specs.Means.{means};
 ghost use Rattle.block_shelf.specs.States.{block_state};
 
 use crate::block::BlockShelf;
-use block_parts::links::{channel_of, is_held, is_rest};
-use block_rules::parts::{Hold, Job, LinkState};
+use block_rules::parts::{Job, LinkState};
 use plan::refusal::Refusal;
 use reading::kind::Reading;
 use shelf::numbering::link_number;
@@ -18,39 +17,23 @@ impl<'a, R: Reading> BlockShelf<'a, R> {
     pub(crate) fn job(&self, party: u8) -> Job
         ensures { result ≡ (party_at (block_state self.now) party).job }
     {
-        let at = party as usize;
-        if at < self.seats.len() {
-            self.seats[at].job
-        } else {
-            Job::Idle
-        }
+        self.seats
+            .get(party as usize)
+            .map_or(Job::Idle, |seat| seat.job)
     }
 
     // A link by its number; an unused one if there is no such link.
     pub(crate) fn link(&self, at: usize) -> LinkState
         ensures { result ≡ link (block_state self.now) at }
     {
-        if at < self.links.len() {
-            self.links[at]
-        } else {
-            LinkState {
-                seen: 0,
-                guard: None,
-                hold: Hold::Empty,
-            }
-        }
+        self.links.get(at).copied().unwrap_or_default()
     }
 
     // The current block of a channel; 0 if there is no such channel.
     pub(crate) fn current(&self, channel: u8) -> u16
         ensures { result ≡ current_of (block_state self.now) channel }
     {
-        let at = channel as usize;
-        if at < self.current.len() {
-            self.current[at]
-        } else {
-            0
-        }
+        self.current.get(channel as usize).copied().unwrap_or(0)
     }
 
     // Whether the current block of the link's channel is the one that the link saw.
@@ -58,21 +41,21 @@ impl<'a, R: Reading> BlockShelf<'a, R> {
         ensures { result ≡ is_live (block_state self.now) at }
     {
         let link = self.link(at);
-        self.current(channel_of(link.hold)) == link.seen
+        self.current(link.hold.unwrap_or(0)) == link.seen
     }
 
     // Whether a party is at nothing.
     pub(crate) fn rests(&self, party: u8) -> bool
         ensures { result ≡ is_idle (activity_of (means R.Reading.kind.blank (block_state self.now)) party) }
     {
-        is_rest(self.job(party))
+        self.job(party).is_idle()
     }
 
     // Whether a link, by its number, is not empty.
     fn is_full(&self, at: usize) -> bool
         ensures { result ≡ not (is_vacant (link_at (means R.Reading.kind.blank (block_state self.now)) at)) }
     {
-        is_held(self.link(at).hold)
+        self.link(at).hold.is_some()
     }
 
     // The number of a party's link among all, if the party is there, rests, and has such a link.

@@ -1,4 +1,4 @@
-ghost use Rattle.std.specs.Prelude.{◌≡◌, ◌+◌, ◌<◌, ltb, if◌then◌else◌, ◌==◌, nat_lt};
+ghost use Rattle.std.specs.Prelude.{◌≡◌, ◌+◌, if◌then◌else◌, ◌==◌, nat_lt};
 ghost use Rattle.plan.specs.Plans.{width};
 ghost use Rattle.block_rules.specs.Blocks.{link as link_in, party as party_at, current_of, is_live, with_job, with_party, with_both, start_put, compared, turn_take, turn_put, turn_scan, turn_job, take_answer, after_put_answer};
 ghost use Rattle.block_rules.specs.Sound.{Sound};
@@ -7,7 +7,6 @@ ghost use Rattle.block_rules.specs.declared.parts.Access.TheVariants.{Compare};
 ghost use Rattle.block_shelf.specs.States.{block_state};
 
 use crate::block::BlockShelf;
-use block_parts::links::{channel_of, guarding, holding, seeing};
 use block_rules::parts::{Access, Job, LinkState};
 use reading::kind::Reading;
 use shelf::answer::Answer;
@@ -16,50 +15,54 @@ use shelf::answer::Answer;
 impl<'a, R: Reading> BlockShelf<'a, R> {
     // Gives a party another job.
     pub(crate) fn set_job(&mut self, party: u8, job: Job)
-        requires there { party < self.old.plan.parties }
-        requires allowed { Sound (with_party (block_state self.old) party (with_job (party_at (block_state self.old) party) job)) }
+        requires { Sound (with_party (block_state self.old) party (with_job (party_at (block_state self.old) party) job)) }
         ensures { block_state self.new ≡ with_party (block_state self.old) party (with_job (party_at (block_state self.old) party) job) }
     {
-        self.seats[party as usize].job = job;
+        if let Some(seat) = self.seats.get_mut(party as usize) {
+            seat.job = job;
+        }
     }
 
     // Changes a link, by its number, and gives a party another job.
     pub(crate) fn set_link(&mut self, party: u8, at: usize, link: LinkState, job: Job)
-        requires there { party < self.old.plan.parties }
-        requires within { at < width self.old.plan }
-        requires allowed { Sound (with_both (block_state self.old) at link party (with_job (party_at (block_state self.old) party) job)) }
+        requires { Sound (with_both (block_state self.old) at link party (with_job (party_at (block_state self.old) party) job)) }
         ensures { block_state self.new ≡ with_both (block_state self.old) at link party (with_job (party_at (block_state self.old) party) job) }
     {
-        self.links[at] = link;
-        self.seats[party as usize].job = job;
+        if let Some(place) = self.links.get_mut(at) {
+            *place = link;
+        }
+        if let Some(seat) = self.seats.get_mut(party as usize) {
+            seat.job = job;
+        }
     }
 
     // The start of a put: the top ready block goes into hand, and the reading is written there.
     pub(crate) fn take_up(&mut self, party: u8, at: usize, reading: R)
-        requires there { party < self.old.plan.parties }
-        requires allowed { Sound (start_put (block_state self.old) party at reading) }
+        requires { Sound (start_put (block_state self.old) party at reading) }
         ensures { block_state self.new ≡ start_put (block_state self.old) party at reading }
     {
-        if let Some(block) = self.seats[party as usize].take_up(at) {
+        let Some(seat) = self.seats.get_mut(party as usize) else {
+            return;
+        };
+        if let Some(block) = seat.take_up(at) {
             self.row.write(block as usize, reading);
         }
     }
 
     // The four accesses of a take, one a turn.
     pub(crate) fn turn_take(&mut self, party: u8, at: usize, channel: u8, access: Access) -> Answer
-        requires there { party < self.old.plan.parties }
-        requires job { (party_at (block_state self.old) party).job ≡ Taking at channel access }
+        requires { (party_at (block_state self.old) party).job ≡ Taking at channel access }
         ensures answer { result ≡ take_answer access }
         ensures shelf { block_state self.new ≡ turn_take (block_state self.old) party at channel access }
     {
         match access {
             Access::ReadCurrent => {
-                let link = seeing(self.link(at), self.current(channel));
+                let link = self.link(at).seeing(self.current(channel));
                 self.set_link(party, at, link, Job::Taking(at, channel, Access::SetGuard));
                 Answer::Run
             }
             Access::SetGuard => {
-                let link = guarding(self.link(at));
+                let link = self.link(at).guarding();
                 self.set_link(party, at, link, Job::Taking(at, channel, Access::Compare));
                 Answer::Run
             }
@@ -78,8 +81,7 @@ impl<'a, R: Reading> BlockShelf<'a, R> {
 
     // The comparison of a take: it holds, and the take is in force, or the take begins again.
     fn compare(&mut self, party: u8, at: usize, channel: u8)
-        requires there { party < self.old.plan.parties }
-        requires job { (party_at (block_state self.old) party).job ≡ Taking at channel Compare }
+        requires { (party_at (block_state self.old) party).job ≡ Taking at channel Compare }
         ensures { block_state self.new ≡ compared (block_state self.old) party at channel ((current_of (block_state self.old) channel) == (link_in (block_state self.old) at).seen) }
     {
         let link = self.link(at);
@@ -87,7 +89,7 @@ impl<'a, R: Reading> BlockShelf<'a, R> {
             self.set_link(
                 party,
                 at,
-                holding(link, channel),
+                link.holding(channel),
                 Job::Taking(at, channel, Access::ReadBlock),
             );
         } else {
@@ -97,8 +99,7 @@ impl<'a, R: Reading> BlockShelf<'a, R> {
 
     // The comparison of a put: it stores, or it missed and its block is ready again.
     pub(crate) fn turn_put(&mut self, party: u8, at: usize, block: u16) -> Answer
-        requires there { party < self.old.plan.parties }
-        requires job { (party_at (block_state self.old) party).job ≡ Putting at block }
+        requires { (party_at (block_state self.old) party).job ≡ Putting at block }
         ensures answer { result ≡ (if is_live (block_state self.old) at then after_put_answer (party_at (block_state self.old) party).ready else Answer.Missed) }
         ensures shelf { block_state self.new ≡ turn_put (block_state self.old) party at block (is_live (block_state self.old) at) }
     {
@@ -107,15 +108,14 @@ impl<'a, R: Reading> BlockShelf<'a, R> {
             self.seats[party as usize].miss(block);
             return Answer::Missed;
         }
-        self.current[channel_of(link.hold) as usize] = block;
+        self.current[link.hold.unwrap_or(0) as usize] = block;
         self.seats[party as usize].retire(at, link.seen)
     }
 
     // A scan reads one guard; after the last it ends the put.
     pub(crate) fn turn_scan(&mut self, party: u8, at: usize, next: usize) -> Answer
-        requires there { party < self.old.plan.parties }
-        requires job { (party_at (block_state self.old) party).job ≡ Scanning at next }
-        ensures answer { result ≡ (if ltb (next + 1) (width self.old.plan) then Answer.Run else Answer.Stored) }
+        requires { (party_at (block_state self.old) party).job ≡ Scanning at next }
+        ensures answer { result ≡ (if nat_lt (next + 1) (width self.old.plan) then Answer.Run else Answer.Stored) }
         ensures shelf { block_state self.new ≡ turn_scan (block_state self.old) party at next (link_in (block_state self.old) next).guard (nat_lt (next + 1) (width self.old.plan)) }
     {
         let guard = self.link(next).guard;
@@ -129,8 +129,7 @@ impl<'a, R: Reading> BlockShelf<'a, R> {
 
     // The comparison of a check.
     pub(crate) fn turn_check(&mut self, party: u8, at: usize) -> Answer
-        requires there { party < self.old.plan.parties }
-        requires job { (party_at (block_state self.old) party).job ≡ Checking at }
+        requires { (party_at (block_state self.old) party).job ≡ Checking at }
         ensures answer { result ≡ (if is_live (block_state self.old) at then Answer.Live else Answer.Broken) }
         ensures shelf { block_state self.new ≡ turn_job (block_state self.old) party (Checking at) }
     {

@@ -1,9 +1,5 @@
-use Rattle.block_rules.proofs.Unique.{sound_out}
-use Rattle.block_shelf.specs.States.{block_state}
 use Rattle.block_shelf.proofs.Standing.{beyond_stays}
 use Rattle.block_shelf.proofs.block.BlockShelf.blocks_beyond_stay.Goals as goal
 
 pub returns : goal.returns
-returns g c =
-    let s = block_state c.args.self.now in
-    beyond_stays g.R.Reading.kind.blank s (sound_out s c.args.self.now.sound)
+returns g c = beyond_stays g.R.Reading.kind.blank c.args.self.now

@@ -1,9 +1,5 @@
-use Rattle.block_rules.proofs.Unique.{sound_out}
-use Rattle.block_shelf.specs.States.{block_state}
 use Rattle.block_shelf.proofs.Standing.{places_stay}
 use Rattle.block_shelf.proofs.block.BlockShelf.blocks_have_one_place.Goals as goal
 
 pub returns : goal.returns
-returns g c =
-    let s = block_state c.args.self.now in
-    places_stay g.R.Reading.kind.blank s (sound_out s c.args.self.now.sound)
+returns g c = places_stay g.R.Reading.kind.blank c.args.self.now

@@ -1,22 +1,25 @@
-use Rattle.std.proofs.Common.{set, vec_items, refl, arith}
+use Rattle.std.proofs.Common.{refl, ◌∙◌}
 use Rattle.block_rules.specs.Blocks.{Party, with_job}
-use Rattle.block_shelf.proofs.Fit.{seated, allowed_then, seat_there}
+use Rattle.block_shelf.proofs.Fit.{seated, unlinked, allowed_then, found_there, not_found}
 use Rattle.block_shelf.proofs.block.BlockShelf.set_link.Goals as goal
-
-pub index_mut-requires-2 : goal.index_mut-requires-2
-index_mut-requires-2 g c =
-    let v = c.args.self.now in
-    omega (arith, seat_there v.plan _ (vec_items v.current) (vec_items v.links) (vec_items v.seats) v.sound c.args.party c.requires.there, v.seats.ok.0)
+use Rattle.block_shelf.proofs.block.BlockShelf.set_link.Goals.{in-Some, in_default}
 
 pub invariant_of-self : goal.invariant_of-self
 invariant_of-self g c =
-    let v = c.args.self.now in record {
-      sound = allowed_then _ _ (seated v.plan v.row.blocks.now (vec_items v.current) (set (vec_items v.links) c.args.at c.args.link) (vec_items v.seats) c.args.party c.index_mut-2.result.now _ (λ (q : Party). with_job q c.args.job) c.index_mut-2.ensures.value
-          (seat_there v.plan _ (vec_items v.current) (vec_items v.links) (vec_items v.seats) v.sound c.args.party c.requires.there) refl) c.requires.allowed;
-    }
+    let there = found_there _ c.args.party c.in-Some-get_mut.seat c.in-Some-get_mut.ensures.item in
+    elim c.match-get_mut.branch [
+      | in-Some w ↦ rw w.self-is (record { sound = allowed_then _ _ (seated _ _ _ _ _ _ c.in-Some-get_mut.seat.now _ (λ (q : Party). with_job q c.args.job) c.in-Some-get_mut.ensures.value there refl) c.requires })
+      | in_default w ↦ rw w.self-is (record {
+        sound = allowed_then _ _ (seated _ _ _ _ _ _ c.in-Some-get_mut.seat.now _ (λ (q : Party). with_job q c.args.job) c.in-Some-get_mut.ensures.value there refl
+            ∙ unlinked _ _ _ _ _ c.args.at c.args.link (not_found _ _ w.in_default.ensures.item)) c.requires;
+      })
+    ]
 
-pub returns : goal.returns
-returns g c =
-    let v = c.args.self.now in
-    seated v.plan v.row.blocks.now (vec_items v.current) (set (vec_items v.links) c.args.at c.args.link) (vec_items v.seats) c.args.party c.index_mut-2.result.now _ (λ (q : Party). with_job q c.args.job) c.index_mut-2.ensures.value
-    (seat_there v.plan _ (vec_items v.current) (vec_items v.links) (vec_items v.seats) v.sound c.args.party c.requires.there) refl
+pub returns-in-Some-get_mut : goal.returns-in-Some-get_mut
+returns-in-Some-get_mut g c =
+    let there = found_there _ c.args.party c.in-Some-get_mut.seat c.in-Some-get_mut.ensures.item in
+    elim c.match-get_mut.branch [
+      | in-Some w ↦ rw w.self-is (seated _ _ _ _ _ _ c.in-Some-get_mut.seat.now _ (λ (q : Party). with_job q c.args.job) c.in-Some-get_mut.ensures.value there refl)
+      | in_default w ↦ rw w.self-is (seated _ _ _ _ _ _ c.in-Some-get_mut.seat.now _ (λ (q : Party). with_job q c.args.job) c.in-Some-get_mut.ensures.value there refl
+          ∙ unlinked _ _ _ _ _ c.args.at c.args.link (not_found _ _ w.in_default.ensures.item))
+    ]

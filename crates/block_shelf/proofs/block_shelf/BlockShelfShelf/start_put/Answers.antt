@@ -1,32 +1,5 @@
-use Rattle.std.proofs.Common.{vec_items}
-use Rattle.std.proofs.lemmas.Result.{err_from_is_err_and}
-use Rattle.block_shelf.proofs.Starts.{held_there, put_sound, put_granted, puts_then, put_refused, put_stays}
+use Rattle.block_shelf.proofs.Starts.{put_sound}
 use Rattle.block_shelf.proofs.block_shelf.BlockShelfShelf.start_put.Goals as goal
 
-pub returns-in_err-at : goal.returns-in_err-at
-returns-in_err-at g c =
-    let v = c.args.self.now in
-    let p = err_from_is_err_and c.from_residual.result c.from_residual.ensures.1 in
-    let e = c.in_err-at.ensures.answer in
-    record {
-      answer = put_refused g.R.Reading.kind.blank v.plan v.row.blocks.now (vec_items v.current) (vec_items v.links) (vec_items v.seats) v.sound c.args.party c.args.link _ p.0 c.from_residual.result p.1 p.2 e c.args.reading;
-      shelf = put_stays g.R.Reading.kind.blank v.plan v.row.blocks.now (vec_items v.current) (vec_items v.links) (vec_items v.seats) v.sound c.args.party c.args.link _ p.0 c.from_residual.result p.1 p.2 e c.args.reading;
-    }
-
 pub take_up-requires : goal.take_up-requires
-take_up-requires g c =
-    let v = c.args.self.now in
-    let e = c.in_ok-at.ensures.answer in
-    record {
-      there = held_there g.R.Reading.kind.blank v.plan v.row.blocks.now (vec_items v.current) (vec_items v.links) (vec_items v.seats) v.sound c.args.party c.args.link c.in_ok-at.at e;
-      allowed = put_sound g.R.Reading.kind.blank v.plan v.row.blocks.now (vec_items v.current) (vec_items v.links) (vec_items v.seats) v.sound c.args.party c.args.link c.in_ok-at.at e c.args.reading;
-    }
-
-pub returns : goal.returns
-returns g c =
-    let v = c.args.self.now in
-    let e = c.in_ok-at.ensures.answer in
-    record {
-      answer = put_granted g.R.Reading.kind.blank v.plan v.row.blocks.now (vec_items v.current) (vec_items v.links) (vec_items v.seats) v.sound c.args.party c.args.link c.in_ok-at.at e c.args.reading;
-      shelf = puts_then g.R.Reading.kind.blank v.plan v.row.blocks.now (vec_items v.current) (vec_items v.links) (vec_items v.seats) v.sound c.args.party c.args.link c.in_ok-at.at e c.args.reading _ c.take_up.ensures;
-    }
+take_up-requires g c = put_sound g.R.Reading.kind.blank c.args.self.now c.args.party c.args.link c.in_ok-at.at c.in_ok-at.ensures.answer c.args.reading
