@@ -2,14 +2,14 @@
 use Rattle.std.proofs.Common.{◌≡◌, ℕ, zero, suc, ◌+◌, ◌≤◌, List, [], ◌∷◌, ◌++◌, map, length, drop, replicate, sym, refl, ap, ◌∙◌, subst, arith}
 use Rattle.std.proofs.lemmas.List.{length-append, length-replicate, get_or-replicate, get_or_append_left}
 use Rattle.std.proofs.lemmas.Bool.Decides.{nat_tests}
-use Rattle.plan.specs.Plans.{width, need, plan_verdict, InRange}
+use Rattle.plan.specs.Plans.{width, need, plan_verdict, no_plan, InRange}
 use Rattle.plan.specs.Refusals.{accepted}
 use Rattle.plan.specs.declared.check.Plan.{Plan}
 use Rattle.plan.specs.declared.check.ShelfType.TheVariants.{Block}
 use Rattle.shelf.specs.Meaning.{idle, blank_meaning}
 use Rattle.shelf.specs.Rules.{Fresh}
 use Rattle.shelf.proofs.Ranges.{plan_accepted, range_small}
-use Rattle.block_rules.specs.Blocks.{share, state_of, unused, blocks_from, fresh_parties, fresh, no_plan, made_by, made}
+use Rattle.block_rules.specs.Blocks.{share, state_of, unused, blocks_from, fresh_parties, fresh, made_by, made}
 use Rattle.block_rules.specs.Counting.{standings, below}
 use Rattle.block_rules.specs.Sound.{Sound}
 use Rattle.block_rules.specs.Means.{link_from, activity_from, reading_in, means}

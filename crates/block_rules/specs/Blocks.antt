@@ -2,7 +2,7 @@
 -- A link is given by its number among the links of all parties; the guards in the order of a scan are the links in list order.
 use Rattle.std.specs.Prelude.{ℕ, zero, suc, ◌+◌, Bool, true, false, if◌then◌else◌, not, List, [], ◌∷◌, ◌++◌, reverse, length, drop, replicate, Some, None, filter, Option, ◌==◌, nat_lt, slice_index, slice_index_or, slice_set, unwrap_or}
 use Rattle.std.specs.List.{range_with_len, list_any}
-use Rattle.plan.specs.Plans.{width, need, plan_verdict}
+use Rattle.plan.specs.Plans.{width, need, plan_verdict, no_plan}
 use Rattle.plan.specs.Refusals.{Outcome, accepted, refused}
 use Rattle.plan.specs.declared.check.Plan.{Plan}
 use Rattle.plan.specs.declared.check.ShelfType.TheVariants.{Block}
@@ -74,9 +74,6 @@ fresh_parties a m (suc n) = fresh_party a m ∷ fresh_parties (a + m) m n
 
 abbrev pub fresh : {R : Type 0} → Plan → List R → State R
 fresh pl row = state_of pl row (blocks_from 0 pl.channels) (replicate (width pl) unused) (fresh_parties pl.channels (share pl) pl.parties)
-
-abbrev pub no_plan : Plan
-no_plan = record { parties = 0; links = 0; channels = 0 }
 
 -- an accepted plan blanks the blocks of its need and no others; a refused one gives a shelf without parties or need, and touches no block
 abbrev pub made_by : {R : Type 0} → R → List R → Outcome Plan → State R

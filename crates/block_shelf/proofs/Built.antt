@@ -3,17 +3,15 @@ use Rattle.std.proofs.Common.{◌≡◌, ℕ, zero, suc, ◌+◌, ◌-◌, ◌*�
 use Rattle.std.proofs.lemmas.List.FromFn.{length-range_with_len}
 use Rattle.std.proofs.lemmas.List.{map-append, length-reverse, reverse-append}
 use Rattle.plan.specs.Plans.{width, need, plan_verdict}
-use Rattle.std.specs.Result.{ResultUnwrapsOrElse}
-use Rattle.plan.specs.Refusals.{Outcome, accepted, refused, told}
-use Rattle.plan.specs.declared.refusal.Refusal.{Refusal}
+use Rattle.plan.specs.Refusals.{Outcome, accepted, refused}
 use Rattle.plan.specs.declared.check.Plan.{Plan}
 use Rattle.plan.specs.declared.check.ShelfType.TheVariants.{Block}
 use Rattle.shelf.specs.Rules.{Fresh}
-use Rattle.shelf.proofs.Ranges.{plan_accepted}
+use Rattle.shelf.proofs.Ranges.{Chosen, given, none, chosen_fits}
 use Rattle.block_parts.specs.declared.seat.Seat.{Seat}
 use Rattle.block_parts.specs.Seats.{party_of}
 use Rattle.block_rules.specs.declared.parts.LinkState.{LinkState}
-use Rattle.block_rules.specs.Blocks.{share, Party, State, state_of, unused, blocks_from, fresh_party, fresh_parties, no_plan, made_by, made, fresh}
+use Rattle.block_rules.specs.Blocks.{share, Party, State, state_of, unused, blocks_from, fresh_party, fresh_parties, made_by, made, fresh}
 use Rattle.block_rules.specs.Sound.{Sound}
 use Rattle.block_rules.proofs.AsShelf.{block_shelf_rules}
 use Rattle.block_rules.proofs.Made.{nothing_sound, made_fresh}
@@ -66,39 +64,21 @@ all_ready first count b xs inv h =
 unused_is : (l : LinkState) → (l.seen ≡ 0) × ((l.guard ≡ None) × (l.hold ≡ None)) → l ≡ unused
 unused_is l e = λ i. record { seen = e.0 i; guard = e.1.0 i; hold = e.1.1 i }
 
--- the plan that was checked, or one without parties
-abbrev pub Chosen : Result Plan Refusal → Plan → Type 0
-Chosen r given = ResultUnwrapsOrElse r (λ x. (x.parties ≡ 0) × ((x.links ≡ 0) × (x.channels ≡ 0))) given
-
-no_plan_is : (x : Plan) → (x.parties ≡ 0) × ((x.links ≡ 0) × (x.channels ≡ 0)) → x ≡ no_plan
-no_plan_is x e = λ i. record { parties = e.0 i; links = e.1.0 i; channels = e.1.1 i }
-
 module _ {R : Type 0} (d : R) (pl : Plan) (row : List R) where
-  module _ (r : Result Plan Refusal) (e : told r ≡ plan_verdict pl Block (length row)) (given : Plan) (u : Chosen r given) where
-    -- what is blanked is the need
-    all_blanked : (n : ℕ) → n ≡ need Block given → min n (length row) ≡ need Block given
-    all_blanked n q = go r e u
-      where
-        go : (o : Result Plan Refusal) → told o ≡ plan_verdict pl Block (length row) → Chosen o given → min n (length row) ≡ need Block given
-        go (Ok x) k c =
-            let t = plan_accepted pl Block (length row) x k in
-            omega (arith, q, subst (λ (y : Plan). need Block y ≤ length row) (sym (c ∙ t.same)) t.enough)
-        go (Err x) k c = omega (arith, q, ap (need Block) (no_plan_is given c))
+  -- the state that the rule makes of the chosen plan
+  made_of : (p : Plan) → Chosen pl Block (length row) p → fresh p (replicate (need Block p) d ++ drop (need Block p) row) ≡ made d pl row
+  made_of _ (given p e) = ap (made_by d row) e
+  made_of _ (none n e) = ap (made_by d row) e
 
-    given_made : fresh given (replicate (need Block given) d ++ drop (need Block given) row) ≡ made d pl row
-    given_made = go r e u
-      where
-        go : (o : Result Plan Refusal) → told o ≡ plan_verdict pl Block (length row) → Chosen o given → fresh given (replicate (need Block given) d ++ drop (need Block given) row) ≡ made d pl row
-        go (Ok x) k c = ap (λ (y : Plan). fresh y (replicate (need Block y) d ++ drop (need Block y) row)) c ∙ ap (made_by d row) k
-        go (Err x) k c = ap (λ (y : Plan). fresh y (replicate (need Block y) d ++ drop (need Block y) row)) (no_plan_is given c) ∙ ap (made_by d row) k
-
-    pub made_state : (n : ℕ) → n ≡ need Block given → (row' : List R) → row' ≡ replicate (min n (length row)) d ++ drop (min n (length row)) row → (current : List ℕ) → current ≡ blocks_from 0 given.channels
-        → (k : ℕ) → k ≡ width given → (l : LinkState) → (l.seen ≡ 0) × ((l.guard ≡ None) × (l.hold ≡ None)) → (links : List LinkState) → links ≡ replicate k l
-        → (parties : List Party) → parties ≡ fresh_parties given.channels (share given) given.parties → state_of given row' current links parties ≡ made d pl row
-    made_state n needed row' blocks current c k all l blank links ls parties ps =
-        let rows = blocks ∙ ap (λ (m : ℕ). replicate m d ++ drop m row) (all_blanked n needed) in
-        let linked = ls ∙ (ap (λ (m : ℕ). replicate m l) all ∙ ap (replicate (width given)) (unused_is l blank)) in
-        (λ i. state_of given (rows i) (c i) (linked i) (ps i)) ∙ given_made
+  -- and of the lists that the code makes
+  pub made_state : (p : Plan) → Chosen pl Block (length row) p → (row' : List R) (current : List ℕ) (l : LinkState) (links : List LinkState) (parties : List Party)
+      → row' ≡ replicate (min (need Block p) (length row)) d ++ drop (min (need Block p) (length row)) row → current ≡ blocks_from 0 p.channels
+      → (l.seen ≡ 0) × ((l.guard ≡ None) × (l.hold ≡ None)) → links ≡ replicate (width p) l
+      → parties ≡ fresh_parties p.channels (share p) p.parties → state_of p row' current links parties ≡ made d pl row
+  made_state p c row' current l links parties blocks now blank linked ps =
+      let rows = blocks ∙ ap (λ (n : ℕ). replicate n d ++ drop n row) (chosen_fits pl Block (length row) p c) in
+      let unlinked = linked ∙ ap (replicate (width p)) (unused_is l blank) in
+      (λ i. state_of p (rows i) (now i) (unlinked i) (ps i)) ∙ made_of p c
 
   made_is_sound : Sound (made d pl row)
   made_is_sound = go (plan_verdict pl Block (length row)) refl
@@ -111,5 +91,5 @@ module _ {R : Type 0} (d : R) (pl : Plan) (row : List R) where
   made_sound t q = ∣ subst Sound (sym q) made_is_sound ∣₁
 
   -- whatever state is made, it is fresh if the check accepts
-  pub fresh_made : (t : State R) → t ≡ made d pl row → (given : Plan) → accepted given ≡ plan_verdict pl Block (length row) → Fresh (block_shelf_rules d) t
-  fresh_made t q given e = subst (Fresh (block_shelf_rules d)) (sym q) (made_fresh d pl row given e)
+  pub fresh_made : (t : State R) → t ≡ made d pl row → (p : Plan) → accepted p ≡ plan_verdict pl Block (length row) → Fresh (block_shelf_rules d) t
+  fresh_made t q p e = subst (Fresh (block_shelf_rules d)) (sym q) (made_fresh d pl row p e)

@@ -1,4 +1,6 @@
+ghost use Rattle.std.specs.Prelude.{refl};
 ghost use Rattle.block_rules.proofs.AsShelf.{block_shelf_rules};
+ghost use Rattle.block_rules.proofs.Unique.{sound_out};
 ghost use Rattle.block_shelf.specs.States.{block_state};
 
 use crate::block::BlockShelf;
@@ -7,6 +9,7 @@ use plan::check::{Plan, ShelfType};
 use plan::refusal::Refusal;
 use reading::kind::Reading;
 use shelf::answer::Answer;
+use shelf::numbering::Standing;
 use shelf::shelf::Shelf;
 
 impl<'a, R: Reading> Shelf for BlockShelf<'a, R> {
@@ -16,7 +19,9 @@ impl<'a, R: Reading> Shelf for BlockShelf<'a, R> {
 
     ghost state = { λ s. block_state s };
 
-    fn attest(&self) {}
+    ghost sound = { λ s. sound_out (block_state s) s.sound };
+
+    ghost blank = { refl };
 
     fn plan(&self) -> Plan {
         self.plan

@@ -1,16 +1,15 @@
-ghost use Rattle.std.specs.Prelude.{◌≡◌, not, [], ◌∷◌};
-ghost use Rattle.plan.specs.Refusals.{told, unless_refused};
-ghost use Rattle.shelf.specs.Meaning.{flat, activity_of, link_at};
-ghost use Rattle.shelf.specs.Calls.{is_idle, is_vacant, known, free, has_link, full};
+ghost use Rattle.std.specs.Prelude.{◌≡◌, not};
+ghost use Rattle.shelf.specs.Meaning.{activity_of, link_at};
+ghost use Rattle.shelf.specs.Calls.{is_idle, is_vacant};
 ghost use Rattle.block_rules.specs.Blocks.{link, party as party_at, current_of, is_live};
 ghost use Rattle.block_rules.specs.Means.{means};
 ghost use Rattle.block_shelf.specs.States.{block_state};
 
 use crate::block::BlockShelf;
 use block_rules::parts::{Job, LinkState};
-use plan::refusal::Refusal;
+use plan::check::Plan;
 use reading::kind::Reading;
-use shelf::numbering::link_number;
+use shelf::numbering::Standing;
 
 impl<'a, R: Reading> BlockShelf<'a, R> {
     // What a party is at; idle if there is no such party.
@@ -43,36 +42,24 @@ impl<'a, R: Reading> BlockShelf<'a, R> {
         let link = self.link(at);
         self.current(link.hold.unwrap_or(0)) == link.seen
     }
+}
 
-    // Whether a party is at nothing.
-    pub(crate) fn rests(&self, party: u8) -> bool
-        ensures { result ≡ is_idle (activity_of (means R.Reading.kind.blank (block_state self.now)) party) }
-    {
+impl<'a, R: Reading> Standing for BlockShelf<'a, R> {
+    ghost sizes = { λ s. s.plan };
+
+    ghost at_rest = { λ s p. is_idle (activity_of (means R.Reading.kind.blank (block_state s)) p) };
+
+    ghost held = { λ s j. not (is_vacant (link_at (means R.Reading.kind.blank (block_state s)) j)) };
+
+    fn sizes(&self) -> Plan {
+        self.plan
+    }
+
+    fn rests(&self, party: u8) -> bool {
         self.job(party).is_idle()
     }
 
-    // Whether a link, by its number, is not empty.
-    fn is_full(&self, at: usize) -> bool
-        ensures { result ≡ not (is_vacant (link_at (means R.Reading.kind.blank (block_state self.now)) at)) }
-    {
+    fn is_held(&self, at: usize) -> bool {
         self.link(at).hold.is_some()
-    }
-
-    // The number of a party's link among all, if the party is there, rests, and has such a link.
-    pub(crate) fn free_link(&self, party: u8, link: u8) -> Result<usize, Refusal>
-        ensures answer { told result ≡ unless_refused (known self.now.plan (means R.Reading.kind.blank (block_state self.now)) party ∷ free self.now.plan (means R.Reading.kind.blank (block_state self.now)) party ∷ has_link self.now.plan (means R.Reading.kind.blank (block_state self.now)) link ∷ []) (flat self.now.plan party link) }
-    {
-        link_number(self.plan, party, self.rests(party), link)
-    }
-
-    // The same of a link that is not empty.
-    pub(crate) fn held_link(&self, party: u8, link: u8) -> Result<usize, Refusal>
-        ensures answer { told result ≡ unless_refused (known self.now.plan (means R.Reading.kind.blank (block_state self.now)) party ∷ free self.now.plan (means R.Reading.kind.blank (block_state self.now)) party ∷ has_link self.now.plan (means R.Reading.kind.blank (block_state self.now)) link ∷ full self.now.plan (means R.Reading.kind.blank (block_state self.now)) party link ∷ []) (flat self.now.plan party link) }
-    {
-        let at = self.free_link(party, link)?;
-        if !self.is_full(at) {
-            return Err(Refusal::LinkEmpty);
-        }
-        Ok(at)
     }
 }

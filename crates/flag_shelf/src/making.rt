@@ -24,7 +24,7 @@ impl<'a, R: Reading> FlagShelf<'a, R> {
     pub fn make(
         heap: Global,
         plan: Plan,
-        row: BlockRow<'a, R>,
+        mut row: BlockRow<'a, R>,
     ) -> Result<FlagShelf<'a, R>, AllocError>
         ensures state { IfOk result (λ s. flag_state s ≡ made R.Reading.kind.blank plan row.entry.blocks.now) }
         ensures fresh { IfOk result (λ s. (given : PlanIn) → accepted given ≡ plan_verdict plan Flag (length row.entry.blocks.now) → Fresh (flag_shelf_rules R.Reading.kind.blank) (flag_state s)) }
@@ -34,7 +34,6 @@ impl<'a, R: Reading> FlagShelf<'a, R> {
         let plan = check_plan(plan, ShelfType::Flag, row.len()).unwrap_or_default();
         let marks = filled(heap, Mark::Empty, plan.all_links())?;
         let jobs = filled(heap, Job::Idle, plan.parties as usize)?;
-        let mut row = row;
         row.blank_first(plan.blocks_needed(ShelfType::Flag));
         Ok(FlagShelf {
             plan,

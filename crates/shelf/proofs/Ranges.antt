@@ -1,5 +1,5 @@
 -- What an accepted plan check tells.
-use Rattle.std.proofs.Common.{◌≡◌, ℕ, ◌≤◌, leb, List, [], ◌∷◌, sym, subst}
+use Rattle.std.proofs.Common.{◌≡◌, ℕ, ◌≤◌, min, arith, leb, List, [], ◌∷◌, sym, subst}
 use Rattle.std.proofs.lemmas.Bool.{and_parts, leb-true}
 use Rattle.std.specs.Prelude.{Ok, Err, Result}
 use Rattle.std.specs.Result.{ResultUnwrapsOrElse}
@@ -9,6 +9,7 @@ use Rattle.plan.specs.declared.check.Plan.{Plan}
 use Rattle.plan.specs.declared.refusal.Refusal.{Refusal}
 use Rattle.plan.specs.contracts.check.PlanDefault.TheImpl.{is_default-value}
 use Rattle.plan.specs.declared.check.ShelfType.{ShelfType}
+use Rattle.plan.specs.declared.check.ShelfType.TheVariants.{Flag, Block}
 use Rattle.shelf.proofs.Passing.{accepted_passed}
 
 pub record Accepted (pl : Plan) (shelf : ShelfType) (blocks : ℕ) (given : Plan) : Type 0 where
@@ -57,3 +58,11 @@ pub plan_chosen : (pl : Plan) (shelf : ShelfType) (blocks : ℕ) (checked : Resu
     → ResultUnwrapsOrElse checked is_default-value.it p → Chosen pl shelf blocks p
 plan_chosen pl shelf blocks (Ok q) p e u = subst (Chosen pl shelf blocks) (sym u) (given q e)
 plan_chosen pl shelf blocks (Err r) p e u = let k : p ≡ no_plan = λ i. record { parties = u.0 i; links = u.1.0 i; channels = u.1.1 i } in subst (Chosen pl shelf blocks) (sym k) (none (refusal_number r) e)
+
+-- a shelf of the chosen plan has the blocks of its need
+pub chosen_fits : (pl : Plan) (shelf : ShelfType) (blocks : ℕ) (p : Plan) → Chosen pl shelf blocks p → min (need shelf p) blocks ≡ need shelf p
+chosen_fits pl shelf blocks _ (given p e) =
+    let t = plan_accepted pl shelf blocks p e in
+    omega (arith, subst (λ (x : Plan). need shelf x ≤ blocks) (sym t.same) t.enough)
+chosen_fits pl Flag blocks _ (none n e) = omega arith
+chosen_fits pl Block blocks _ (none n e) = omega arith
