@@ -53,11 +53,21 @@ fn run(rt: &HostRuntime) -> anyhow::Result<()> {
     match shelf_type(*code) {
         ShelfType::Flag => {
             let mut shelf = FlagShelf::make(rt.alloc(), plan, row)?;
-            drive(rt, &mut shelf, calls, |shelf, command| answer_of(shelf, command))?;
+            drive(
+                rt,
+                &mut shelf,
+                calls,
+                |shelf, command| answer_of(shelf, command),
+            )?;
         }
         ShelfType::Block => {
             let mut shelf = BlockShelf::make(rt.alloc(), plan, row)?;
-            drive(rt, &mut shelf, calls, |shelf, command| answer_with_places(shelf, command))?;
+            drive(
+                rt,
+                &mut shelf,
+                calls,
+                |shelf, command| answer_with_places(shelf, command),
+            )?;
         }
     }
     print_blocks(rt, &blocks)?;
