@@ -7,6 +7,8 @@ use crate::seat::Seat;
 use block_rules::parts::{Job, Place};
 use shelf::answer::Answer;
 
+// The steps that append promise the rule's party if there is room. (An invariant that makes room certain was tried: it
+// does not close, since a step is given job and block by its caller.)
 impl Seat {
     /// Takes the top ready block into hand for a put on a link, if one is ready.
     pub fn take_up(&mut self, link: usize) -> Option<u16>

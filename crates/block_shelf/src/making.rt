@@ -19,7 +19,8 @@ use shelf::making::filled;
 use shelf::row::BlockRow;
 use std::alloc::{AllocError, Global};
 
-// The current blocks of fresh channels: channel c has block c.
+// The current blocks of fresh channels: channel c has block c. (A loop: `collect` promises no success, not even for
+// none.)
 fn first_blocks(heap: Global, channels: u8) -> Result<Vec<u16>, AllocError>
     ensures blocks { IfOk result (λ v. v.items ≡ blocks_from 0 channels) }
     ensures succeeds { channels ≡ 0 → is_ok result ≡ true }

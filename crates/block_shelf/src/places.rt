@@ -64,7 +64,8 @@ impl<'a, R: Reading> BlockShelf<'a, R> {
         ensures { HeldBlocksStay R.Reading.kind.blank (block_state self.now) }
     {}
 
-    /// Does nothing; promises that whatever is called from now on, no block beyond the need is touched.
+    /// Does nothing; promises that whatever is called from now on, no block beyond the need is touched. (Each shelf has its
+    /// own, as another maker's shelf need not stand on a row.)
     pub fn blocks_beyond_stay(&self)
         ensures { BeyondStays (block_shelf_rules R.Reading.kind.blank) (λ s. s.row) (need Block self.now.plan) (block_state self.now) }
     {}

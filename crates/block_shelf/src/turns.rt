@@ -11,7 +11,8 @@ use block_rules::parts::{Access, Job, LinkState};
 use reading::kind::Reading;
 use shelf::answer::Answer;
 
-// Each function that changes the shelf asks that the rules allow the state to which it leads.
+// Each function that changes the shelf asks that the rules allow the state to which it leads. What a turn function takes
+// beside the party are the parts of the job that `turn` has just matched; a struct for them would be the job again.
 impl<'a, R: Reading> BlockShelf<'a, R> {
     // Gives a party another job.
     pub(crate) fn set_job(&mut self, party: u8, job: Job)
@@ -49,7 +50,8 @@ impl<'a, R: Reading> BlockShelf<'a, R> {
         }
     }
 
-    // The four accesses of a take, one a turn.
+    // The four accesses of a take, one a turn. (An enum and not closures: the state keeps which comes next, and the rules
+    // have the same cases.)
     pub(crate) fn turn_take(&mut self, party: u8, at: usize, channel: u8, access: Access) -> Answer
         requires { (party_at (block_state self.old) party).job ≡ Taking at channel access }
         ensures answer { result ≡ take_answer access }

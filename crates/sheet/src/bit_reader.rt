@@ -62,7 +62,8 @@ impl<'a> BitReader<'a> {
         ((self.bytes[place / 8] >> (7 - place % 8)) % 2) as u64
     }
 
-    // The number in the next field of a width, which stays to be read.
+    // The number in the next field of a width, which stays to be read. (A loop: a fold over the range leaves three
+    // goals open. The width is asked here and in its callers: a type for it would make each literal call longer.)
     fn field(&self, width: usize) -> u64
         requires within { width ≤ length self.now.bits }
         requires narrow { width ≤ 64 }

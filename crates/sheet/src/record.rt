@@ -58,6 +58,8 @@ fn read_picture(bits: &mut BitReader) -> Result<Record, Fault>
     })
 }
 
+// A turn and a release have the same one field; each record has a reader of its own, since every field is taken by
+// `let .. else` where it stands, a rule of the project.
 fn read_turn(bits: &mut BitReader) -> Result<Record, Fault>
     ensures { Reads record_told turn_format result bits.old bits.new }
 {

@@ -10,7 +10,7 @@ use shelf::shelf::Shelf;
 use std::process::Abort;
 use std::test::Fail;
 
-// Carries out a run on a fresh shelf.
+// Carries out a run on a fresh shelf. (The block shelf has the like: `make` is each shelf's own, with a lent row.)
 fn on_flags<R: Reading + Drop, F: FnOnce(&mut FlagShelf<R>) -> Result<(), Fail>>(
     rt: &(impl Abort + AllocGlobal),
     run: F,
