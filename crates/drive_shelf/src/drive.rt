@@ -42,7 +42,7 @@ pub fn answer_with_places(
 
 /// Carries out calls on a shelf and prints what each answers.
 pub fn drive<S: Shelf, F: Fn(&mut S, Command) -> Result<Reply, Refusal>>(
-    rt: &HostRuntime,
+    rt: &impl Print,
     shelf: &mut S,
     calls: &[u8],
     answer: F,

@@ -19,7 +19,7 @@ use std::io::Read;
 // What every block holds before the making.
 const BEFORE: Tally = Tally { count: 9999 };
 
-fn print_blocks(rt: &HostRuntime, blocks: &[Tally]) -> io::Result<()> {
+fn print_blocks(rt: &impl Print, blocks: &[Tally]) -> io::Result<()> {
     print!(rt; "blocks")?;
     for block in blocks {
         let count = block.count;

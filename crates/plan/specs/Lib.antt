@@ -1,2 +1,3 @@
 pub mod Refusals
 pub mod Plans
+pub mod Words

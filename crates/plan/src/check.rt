@@ -1,6 +1,8 @@
 ghost use Rattle.std.specs.Prelude.{◌≡◌};
 ghost use Rattle.plan.specs.Refusals.{told};
 ghost use Rattle.plan.specs.Plans.{width, need, patience, plan_verdict};
+ghost use Rattle.std.specs.Prelude.{Some};
+ghost use Rattle.plan.specs.Words.{shelf_word};
 
 use crate::refusal::Refusal;
 use std::fmt;
@@ -13,6 +15,8 @@ pub enum ShelfType {
 }
 
 impl fmt::Display for ShelfType {
+    ghost output = { λ s. Some (shelf_word s) };
+
     fn fmt<W: fmt::Write>(&self, f: &mut fmt::Formatter<W>) -> fmt::Result {
         f.write_str(match self {
             ShelfType::Flag => "flag",

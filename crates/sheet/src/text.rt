@@ -1,9 +1,14 @@
 //! Sheets in plain words, as people read them.
+ghost use Rattle.std.specs.Prelude.{Some};
+ghost use Rattle.sheet.specs.Words.{kind_word, layer_word, header_text, fault_text};
+
 use crate::words::{Fault, Header, Kind, Layer, Record};
 use plan::check::Plan;
 use std::fmt;
 
 impl fmt::Display for Kind {
+    ghost output = { λ k. Some (kind_word k) };
+
     fn fmt<W: fmt::Write>(&self, f: &mut fmt::Formatter<W>) -> fmt::Result {
         f.write_str(match self {
             Kind::Tally => "tally",
@@ -13,6 +18,8 @@ impl fmt::Display for Kind {
 }
 
 impl fmt::Display for Header {
+    ghost output = { λ h. Some (header_text h) };
+
     fn fmt<W: fmt::Write>(&self, f: &mut fmt::Formatter<W>) -> fmt::Result {
         let Header { kind, shelf, plan } = self;
         let Plan {
@@ -58,6 +65,8 @@ impl fmt::Display for Record {
 }
 
 impl fmt::Display for Layer {
+    ghost output = { λ l. Some (layer_word l) };
+
     fn fmt<W: fmt::Write>(&self, f: &mut fmt::Formatter<W>) -> fmt::Result {
         f.write_str(match self {
             Layer::Plan => "plan",
@@ -68,6 +77,8 @@ impl fmt::Display for Layer {
 }
 
 impl fmt::Display for Fault {
+    ghost output = { λ f. Some (fault_text f) };
+
     fn fmt<W: fmt::Write>(&self, f: &mut fmt::Formatter<W>) -> fmt::Result {
         let Fault {
             refusal,

@@ -3,3 +3,4 @@ pub mod Rules
 pub mod Calls
 pub mod Laws
 pub mod Beyond
+pub mod Words

@@ -1,3 +1,6 @@
+ghost use Rattle.std.specs.Prelude.{Some};
+ghost use Rattle.shelf.specs.Words.{answer_word};
+
 use std::fmt;
 
 /// What a turn of a shelf answers: "run", or the answer of the operation that it ends.
@@ -18,6 +21,8 @@ pub enum Answer {
 }
 
 impl fmt::Display for Answer {
+    ghost output = { λ a. Some (answer_word a) };
+
     fn fmt<W: fmt::Write>(&self, f: &mut fmt::Formatter<W>) -> fmt::Result {
         f.write_str(match self {
             Answer::Run => "run",
