@@ -61,9 +61,6 @@ module _ {R : Type 0} (d : R) where
     pub link_is : (j : ℕ) → link_at (means d s) j ≡ link_from d s.row s.current (link s j)
     link_is j = get_d_mapped (link_from d s.row s.current) s.links j unused
 
-    pub rests_is : (p : ℕ) → rests (party s p).job ≡ is_idle (activity_of (means d s) p)
-    rests_is p = rest_of s.row (party s p).job ∙ ap is_idle (sym (activity_is p))
-
     pub idle_from : (p : ℕ) → activity_of (means d s) p ≡ idle → (party s p).job ≡ Idle
     idle_from p e = idle_of s.row (party s p).job (sym (activity_is p) ∙ e)
 

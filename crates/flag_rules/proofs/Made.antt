@@ -2,7 +2,7 @@
 use Rattle.std.proofs.Common.{◌≡◌, ℕ, zero, suc, List, [], ◌∷◌, ◌++◌, map, length, get_or, take, drop, replicate, sym, refl, ap, ◌∙◌, subst, arith}
 use Rattle.std.proofs.lemmas.List.{length-append, length-replicate, take-append-le, take-replicate}
 use Rattle.plan.specs.Plans.{width, need, plan_verdict, no_plan, InRange}
-use Rattle.plan.specs.Refusals.{accepted, refused}
+use Rattle.plan.specs.Refusals.{accepted}
 use Rattle.plan.specs.declared.check.Plan.{Plan}
 use Rattle.plan.specs.declared.check.ShelfType.TheVariants.{Flag}
 use Rattle.shelf.specs.Meaning.{Link, vacant, Activity, idle, blank_meaning}
@@ -78,6 +78,3 @@ module _ {R : Type 0} (d : R) where
     pub made_fresh : (given : Plan) → accepted given ≡ plan_verdict pl Flag (length row) → Fresh (flag_shelf_rules d) (made d pl row)
     made_fresh given e =
         subst (Fresh (flag_shelf_rules d)) (made_accepted given e) (is_fresh (plan_accepted pl Flag (length row) given e).in_range)
-
-    pub made_refused : (n : ℕ) → refused n ≡ plan_verdict pl Flag (length row) → state_of no_plan row [] [] ≡ made d pl row
-    made_refused n e = ap (made_by d row) e

@@ -3,21 +3,20 @@ use Rattle.std.proofs.Common.{◌≡◌, ℕ, ◌+◌, ◌^◌, ◌<◌, false, 
 use Rattle.std.proofs.lemmas.List.{get_or-drop, get_or_past}
 use Rattle.std.proofs.lemmas.Bool.{true≢false}
 use Rattle.std.proofs.lemmas.Nat.{mul-le}
-use Rattle.plan.specs.Refusals.{Test, accepted, refused, unless_refused}
+use Rattle.plan.specs.Refusals.{Test, accepted, unless_refused}
 use Rattle.plan.specs.declared.check.Plan.{Plan}
-use Rattle.shelf.specs.Meaning.{flat, Own, Meaning, idle, link_at, activity_of}
-use Rattle.shelf.specs.Calls.{known, free, has_link, full, reading_on, is_idle, Turn, looked, turn_answer, after}
-use Rattle.shelf.specs.declared.answer.Answer.{Answer}
+use Rattle.shelf.specs.Meaning.{flat, Own, Meaning, link_at}
+use Rattle.shelf.specs.Calls.{known, free, has_link, full, reading_on, is_idle, looked}
 use Rattle.shelf.proofs.Basics.{own_below}
 use Rattle.shelf.proofs.Passing.{passes}
-use Rattle.shelf.proofs.Granted.{free_passed, number_is, party_in, idle_there, link_own, link_full, after_by, turn_passes, idle_answer, idle_state, busy_answer}
+use Rattle.shelf.proofs.Granted.{free_passed, number_is, party_in, idle_there, link_own, link_full}
 use Rattle.flag_rules.specs.declared.parts.Mark.{Mark}
 use Rattle.flag_rules.specs.declared.parts.Mark.TheVariants.{Empty, Live, Broken}
 use Rattle.flag_rules.specs.declared.parts.Job.{Job}
 use Rattle.flag_rules.specs.declared.parts.Job.TheVariants.{Idle, Taking}
-use Rattle.flag_rules.specs.Flags.{State, state_of, mark_at, job_of, with_job, break_mark, taken, put_by, turn_by, answer_by, Full, JobFits, Sound}
+use Rattle.flag_rules.specs.Flags.{State, state_of, mark_at, job_of, with_job, break_mark, taken, put_by, turn_by, Full, JobFits, Sound}
 use Rattle.flag_rules.specs.Means.{means, link_of, activity_in}
-use Rattle.flag_rules.proofs.Meant.{activity_is, link_is, idle_from, full_from}
+use Rattle.flag_rules.proofs.Meant.{link_is, idle_from, full_from}
 use Rattle.flag_rules.proofs.Steps.{sound_out, sound_job, sound_take, sound_drop, sound_turn}
 use Rattle.flag_rules.proofs.AsShelf.{flag_shelf_rules}
 use Rattle.flag_shelf.specs.declared.flag.FlagShelf.{FlagShelf}
@@ -108,24 +107,6 @@ module _ {R : Type 0} (d : R) (v : FlagShelf R) where
 
     pub turn_kept : (job : Job R) → job_of s p ≡ job → (t : State R) → t ≡ turn_by d s p job → ∥ Sound t ∥₁
     turn_kept job e t q = ∣ subst Sound (ap (turn_by d s p) e ∙ sym q) (sound_turn s ok p in_p d) ∣₁
-
-    -- a turn's answer and state, by the party's job
-    pub idle_refused : Idle ≡ job_of s p → refused 3 ≡ turn_answer (flag_shelf_rules d) s p
-    idle_refused e = idle_answer (flag_shelf_rules d) s p in_p (activity_is d s p ∙ ap activity_in (sym e))
-
-    pub idle_stays : Idle ≡ job_of s p → s ≡ after (flag_shelf_rules d) s (Turn p)
-    idle_stays e = idle_state (flag_shelf_rules d) s p in_p (activity_is d s p ∙ ap activity_in (sym e))
-
-    module _ (job : Job R) (runs : is_idle (activity_in job) ≡ false) (e : job ≡ job_of s p) where
-      busy : activity_of m p ≢ idle
-      busy q = true≢false (ap is_idle (sym q ∙ (activity_is d s p ∙ ap activity_in (sym e))) ∙ runs)
-
-      pub turn_answered : (a : Answer) → a ≡ answer_by s job → accepted a ≡ turn_answer (flag_shelf_rules d) s p
-      turn_answered a q = busy_answer (flag_shelf_rules d) s p in_p busy a (q ∙ ap (answer_by s) e)
-
-      pub turn_done : (t : State R) → t ≡ turn_by d s p job → t ≡ after (flag_shelf_rules d) s (Turn p)
-      turn_done t q =
-          after_by (flag_shelf_rules d) s (Turn p) (turn_passes (flag_shelf_rules d) s p in_p busy) t (q ∙ ap (turn_by d s p) e)
 
   -- the state that the code builds in each turn
   module _ (p : ℕ) where

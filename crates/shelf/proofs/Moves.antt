@@ -42,14 +42,8 @@ module _ {R : Type 0} where
   take_not_put : (j c i : ℕ) (r : R) → take j c ≡ put i r → ⊥
   take_not_put j c i r q = let z : ◌≡◌ {A = ℕ} 0 1 = cc in omega arith
 
-  check_not_put : (j i : ℕ) (r : R) → check j ≡ put i r → ⊥
-  check_not_put j i r q = let z : ◌≡◌ {A = ℕ} 0 1 = cc in omega arith
-
   check_not_take : (j i c : ℕ) → ◌≡◌ {A = Operation R} (check j) (take i c) → ⊥
   check_not_take j i c q = let z : ◌≡◌ {A = ℕ} 0 1 = cc in omega arith
-
-  holds_same : (c e : ℕ) (x y : R) (t u : Bool) → holds c x t ≡ holds e y u → (c ≡ e) × (t ≡ u)
-  holds_same c e x y t u q = (cc, cc)
 
   module _ (d : R) (m : Meaning R) (p : ℕ) (in_p : p < length m.activities) where
     -- what coming into force does to link j
