@@ -1,57 +1,46 @@
 -- A whole sheet: from the bytes to what they say.
 use Rattle.std.proofs.Common.{◌≡◌, ℕ, ◌<◌, ◌≤◌, List, [], ◌∷◌, ◌++◌, cond, map, length, Some, None, Option, sym, arith}
-use Rattle.std.specs.Int.Digits.{AllBelowBase}
 use Rattle.std.proofs.lemmas.List.{map_push, length_push, length-map}
 use Rattle.sheet_rules.specs.Bits.{bits_of}
 use Rattle.sheet_rules.specs.Contents.{Header, Entry, Fault, fault_at, nothing_but, read_to}
 use Rattle.sheet_rules.specs.Formats.{got, fails, read_as, header_format, entry_format, only_fill}
-use Rattle.sheet_rules.specs.Sheets.{packed_entries, most_bits, Ends, too_long, ReadRight}
+use Rattle.sheet_rules.specs.Sheets.{Ends, too_long, ReadRight}
 use Rattle.sheet_rules.proofs.Bytes.{length_bits, under_bits}
-use Rattle.sheet_rules.proofs.Reading.{read_got, read_place, read_under}
-use Rattle.sheet_rules.proofs.Following.{Leads, leads_few, leads_more, fewer_left, leads_fails, leads_end, header_says, header_says_fault}
-use Rattle.sheet_rules.proofs.Meaning.{read_right, under_rest}
+use Rattle.sheet_rules.proofs.Reading.{read_place}
+use Rattle.sheet_rules.proofs.Following.{Leads, leads_more, fewer_left, leads_fails, leads_end, header_says, header_says_fault}
+use Rattle.sheet_rules.proofs.Meaning.{read_right, few}
+use Rattle.sheet.specs.Rest.{LeftOfSheet}
 use Rattle.sheet.specs.Told.{record_told}
 use Rattle.sheet.specs.declared.words.Record.{Record}
 
--- what a header leaves of a sheet's bits are bits, and no more of them
-pub under_header : (bytes : List ℕ) (h : Header) (rest : List ℕ) (k : ℕ) → got h rest k ≡ read_as header_format (bits_of bytes) 0 → AllBelowBase 2 rest
-under_header bytes h rest k r =
-    let u = under_bits bytes in
-    read_under header_format (bits_of bytes) h rest u (read_got header_format (bits_of bytes) 0 h rest k u (sym r))
-
-pub short_header : (bytes : List ℕ) (h : Header) (rest : List ℕ) (k : ℕ) → got h rest k ≡ read_as header_format (bits_of bytes) 0
-    → length bytes ≤ 65536 → length rest ≤ most_bits
-short_header bytes h rest k r s =
-    omega (arith, read_place header_format (bits_of bytes) 0 h rest k (under_bits bytes) (sym r), length_bits bytes)
-
 -- a turn of the reader: the records so far lead from the bits at the start to those that are read on
-module _ {bits : List ℕ} {k : ℕ} (rs : List Record) {rest : List ℕ} {k' : ℕ} (so_far : Leads bits k (map record_told rs) rest k') (u : AllBelowBase 2 bits) where
-  under_led : AllBelowBase 2 rest
-  under_led = under_rest (packed_entries (map record_told rs)) rest (rw so_far.packs at u)
-
+module _ {bits : List ℕ} {k : ℕ} (rs : List Record) {rest : List ℕ} {k' : ℕ} (so_far : Leads bits k (map record_told rs) rest k') (of_sheet : LeftOfSheet (record { bits = rest; place = k' })) where
   pub fault_ends : {f : Fault} → fails f ≡ read_as entry_format rest k' → Ends bits k (map record_told rs) (Some f)
-  fault_ends {f} r = leads_fails bits k (map record_told rs) rest k' so_far under_led f r
+  fault_ends {f} r = leads_fails bits k (map record_told rs) rest k' so_far of_sheet.binary f r
 
   pub end_ends : {rest' : List ℕ} {k'' : ℕ} → got None rest' k'' ≡ read_as entry_format rest k'
       → Ends bits k (map record_told rs) (cond (only_fill rest') None (Some (fault_at 23 k'')))
-  end_ends {rest'} {k''} r = leads_end bits k (map record_told rs) rest k' so_far under_led rest' k'' r
+  end_ends {rest'} {k''} r = leads_end bits k (map record_told rs) rest k' so_far of_sheet.binary rest' k'' r
 
   module _ (x : Record) {rest' : List ℕ} {k'' : ℕ} (r : got (Some (record_told x)) rest' k'' ≡ read_as entry_format rest k') where
     pub record_shortens : length rest' < length rest
-    record_shortens = fewer_left bits k (map record_told rs) rest k' so_far under_led (record_told x) rest' k'' r
+    record_shortens = fewer_left bits k (map record_told rs) rest k' so_far of_sheet.binary (record_told x) rest' k'' r
 
     led_on : Leads bits k (map record_told rs ++ (record_told x ∷ [])) rest' k''
-    led_on = leads_more bits k (map record_told rs) rest k' so_far under_led (record_told x) rest' k'' r
+    led_on = leads_more bits k (map record_told rs) rest k' so_far of_sheet.binary (record_told x) rest' k'' r
 
     pub record_leads : (rs' : List Record) → rs' ≡ rs ++ (x ∷ []) → Leads bits k (map record_told rs') rest' k''
     record_leads rs' e = rw (e, map_push record_told rs x) led_on
 
     -- with one record more there are at most 65,536
-    pub record_fits : length bits ≤ most_bits → length rs < 65536
-    record_fits s =
+    pub record_fits : length rs < 65536
+    record_fits =
         omega (
           arith,
-          leads_few bits k (map record_told rs ++ (record_told x ∷ [])) rest' k'' led_on,
+          led_on.place,
+          few (map record_told rs ++ (record_told x ∷ [])),
+          read_place entry_format rest k' (Some (record_told x)) rest' k'' of_sheet.binary (sym r),
+          of_sheet.short,
           length_push (map record_told rs) (record_told x),
           length-map rs record_told,
         )

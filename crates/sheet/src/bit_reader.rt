@@ -2,7 +2,7 @@ ghost use Rattle.std.specs.Prelude.{◌≡◌, ◌^◌, ◌<◌, ◌≤◌, leng
 ghost use Rattle.std.specs.Int.Digits.{number_from_digits};
 ghost use Rattle.sheet_rules.specs.Bits.{bits_of, field_in};
 ghost use Rattle.sheet_rules.specs.Formats.{only_fill};
-ghost use Rattle.sheet.specs.Rest.{behind};
+ghost use Rattle.sheet.specs.Rest.{behind, LeftOfSheet};
 
 use std::marker::Model;
 
@@ -36,9 +36,11 @@ impl<'a> BitReader<'a> {
         BitReader { bytes, at: 0 }
     }
 
-    // The place of the next bit.
+    // The place of the next bit; and what holds of every reader: bits are left, and no more than a sheet has.
+    #[tactic(auto, using(crate::proofs::Fields::left_of_sheet))]
     pub(crate) fn place(&self) -> usize
-        ensures { result ≡ self.now.place }
+        ensures place { result ≡ self.now.place }
+        ensures left { LeftOfSheet self.now }
     {
         self.at
     }

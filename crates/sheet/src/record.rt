@@ -1,5 +1,6 @@
 ghost use Rattle.std.specs.Prelude.{◌<◌, []};
 ghost use Rattle.sheet_rules.specs.Formats.{channels_format, amendment_format, picture_format, turn_format, release_format, look_format, entry_format};
+ghost use Rattle.sheet.specs.Rest.{LeftOfSheet};
 ghost use Rattle.sheet.specs.Told.{channels_of, record_told, option_told, Reads};
 
 use crate::bit_reader::BitReader;
@@ -95,7 +96,8 @@ fn read_look(bits: &mut BitReader) -> Result<Record, Fault>
 
 // The next record, or none at the end code.
 pub(crate) fn read_record(bits: &mut BitReader) -> Result<Option<Record>, Fault>
-    ensures { Reads (option_told record_told) entry_format result bits.old bits.new }
+    ensures entry { Reads (option_told record_told) entry_format result bits.old bits.new }
+    ensures left { LeftOfSheet bits.old }
 {
     let place = bits.place();
     let Some(code) = bits.take(3) else {

@@ -1,9 +1,8 @@
-ghost use Rattle.std.specs.Prelude.{◌≡◌, ◌≤◌, true, [], length, map, is_ok, IfOk, if◌then◌else◌, Some, None, vec_capacity};
-ghost use Rattle.std.specs.Int.Digits.{AllBelowBase};
+ghost use Rattle.std.specs.Prelude.{◌≡◌, ◌≤◌, true, [], map, is_ok, IfOk, if◌then◌else◌, Some, None, vec_capacity};
 ghost use Rattle.sheet_rules.specs.Bits.{bits_of};
 ghost use Rattle.sheet_rules.specs.Contents.{fault_at};
 ghost use Rattle.sheet_rules.specs.Formats.{only_fill};
-ghost use Rattle.sheet_rules.specs.Sheets.{most_bits, Ends, ReadRight};
+ghost use Rattle.sheet_rules.specs.Sheets.{Ends, ReadRight};
 ghost use Rattle.sheet.specs.Told.{record_told, fault_told, option_told, contents_told};
 
 use crate::bit_reader::BitReader;
@@ -31,9 +30,7 @@ fn read_records(
     bits: &mut BitReader,
     records: &mut Vec<Record>,
 ) -> Result<Option<Fault>, AllocError>
-    requires empty { records.old.items ≡ [] }
-    requires binary { AllBelowBase 2 bits.old.bits }
-    requires short { length bits.old.bits ≤ most_bits }
+    requires { records.old.items ≡ [] }
     ensures said { IfOk result (λ f. Ends bits.old.bits bits.old.place (map record_told records.new.items) (option_told fault_told f)) }
     ensures succeeds { 65536 ≤ vec_capacity records.old → is_ok result ≡ true }
 {

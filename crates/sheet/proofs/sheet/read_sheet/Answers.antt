@@ -1,20 +1,11 @@
 use Rattle.std.proofs.Common.{map, vec_items}
 use Rattle.sheet.specs.Told.{record_told, header_told, fault_told, option_told}
-use Rattle.sheet.proofs.Whole.{under_header, short_header, sheet_too_long, sheet_headed, sheet_headless}
+use Rattle.sheet.proofs.Whole.{sheet_too_long, sheet_headed, sheet_headless}
 use Rattle.sheet.proofs.sheet.read_sheet.Goals as goal
 
 pub returns-then-bytes-gt-MOST_BYTES-clause-said : goal.returns-then-bytes-gt-MOST_BYTES-clause-said
 returns-then-bytes-gt-MOST_BYTES-clause-said c =
     rw (c.clear.ensures.items, c.nothing_but.ensures.header, c.nothing_but.ensures.fault, c.at.ensures) (sheet_too_long c.args.bytes.now c.if-bytes-gt-MOST_BYTES.true)
-
-pub read_records-requires-clause-binary : goal.read_records-requires-clause-binary
-read_records-requires-clause-binary c =
-    under_header c.args.bytes.now (header_told c.in-Ok.header) _ _ (rw (c.new-bits.ensures.bits, c.new-bits.ensures.place) at c.in-Ok.ensures)
-
-pub read_records-requires-clause-short : goal.read_records-requires-clause-short
-read_records-requires-clause-short c =
-    short_header c.args.bytes.now (header_told c.in-Ok.header) _ _ (rw (c.new-bits.ensures.bits, c.new-bits.ensures.place) at c.in-Ok.ensures)
-    c.if-bytes-gt-MOST_BYTES.false
 
 pub returns-clause-said : goal.returns-clause-said
 returns-clause-said c =
