@@ -18,7 +18,7 @@ pub enum Command {
     Idle { party: u8 },
 }
 
-/// The call that four bytes stand for; none ends the script.
+/// The call that four bytes stand for; none ends the script. (A match by code: here a byte becomes a command.)
 pub fn decode(bytes: &[u8]) -> Option<Command> {
     let [code, a, b, c] = bytes else {
         return None;

@@ -17,6 +17,7 @@ use shelf::making::filled;
 use shelf::row::BlockRow;
 use std::alloc::{AllocError, Global};
 
+// The block shelf has a making and a promise on blocks like these: it fills other fields and names its own row.
 impl<'a, R: Reading> FlagShelf<'a, R> {
     /// A shelf of a plan, on a row of blocks. If the plan check accepts, the blocks of the need are blanked, and no
     /// others; if it refuses, the shelf has no parties and no need, and no block is touched. All memory is allocated

@@ -2,7 +2,7 @@ ghost use Rattle.std.specs.Prelude.{◌≡◌};
 ghost use Rattle.plan.specs.Refusals.{refusal_number, OwnNumbers};
 
 /// Why a call, a plan or a sheet is refused. Each case has a number of its own, by which contracts and programs
-/// speak of it.
+/// speak of it, as is a rule of the project.
 #[derive(Clone, Copy, PartialEq, Eq, Debug)]
 pub enum Refusal {
     /// 1: the party is not below N, or the shelf has none.

@@ -94,7 +94,7 @@ fn read_look(bits: &mut BitReader) -> Result<Record, Fault>
     })
 }
 
-// The next record, or none at the end code.
+// The next record, or none at the end code. (One match by code, with a range: a rule of the project.)
 pub(crate) fn read_record(bits: &mut BitReader) -> Result<Option<Record>, Fault>
     ensures entry { Reads (option_told record_told) entry_format result bits.old bits.new }
     ensures left { LeftOfSheet bits.old }

@@ -1,4 +1,4 @@
-//! The block shelf.
+//! The block shelf. A test names the kind of reading that it runs; the runs are the same for each.
 use crate::scenarios::{SMALL, contention, refusal, refusals, there_and_back};
 use block_shelf::block::BlockShelf;
 use plan::check::Plan;

@@ -1,4 +1,4 @@
-//! The flag shelf.
+//! The flag shelf. A test names the kind of reading that it runs; the runs are the same for each.
 use crate::scenarios::{SMALL, contention, refusal, refusals, there_and_back};
 use flag_shelf::flag::FlagShelf;
 use reading::capture::Capture;
