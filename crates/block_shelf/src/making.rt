@@ -10,7 +10,7 @@ ghost use Rattle.block_parts.specs.Seats.{party_of};
 ghost use Rattle.block_shelf.specs.States.{block_state};
 
 use crate::block::BlockShelf;
-use block_parts::block_list::BlockList;
+use block_parts::block_list::{BlockList, MOST_BLOCKS};
 use block_parts::seat::Seat;
 use block_rules::parts::{Job, LinkState};
 use plan::check::{Plan, ShelfType, check_plan};
@@ -34,7 +34,7 @@ fn first_blocks(heap: Global, channels: u8) -> Result<Vec<u16>, AllocError>
 
 // The seat of a party that owns as many blocks from the first on, all ready, the lowest on top.
 fn fresh_seat(first: u16, count: u16) -> Seat
-    requires few { count ≤ 97 }
+    requires few { count ≤ MOST_BLOCKS }
     requires fits { first + count < 65536 }
     ensures { party_of result ≡ fresh_party first count }
 {
@@ -50,7 +50,7 @@ fn fresh_seat(first: u16, count: u16) -> Seat
     }
 }
 
-// The seats of all parties, whose blocks stand behind those of the channels.
+// The seats of all parties, whose blocks stand behind those of the channels. (A loop, as above.)
 fn fresh_seats(heap: Global, plan: Plan) -> Result<Vec<Seat>, AllocError>
     requires { Small plan }
     ensures seats { IfOk result (λ v. map party_of v.items ≡ fresh_parties plan.channels (share plan) plan.parties) }

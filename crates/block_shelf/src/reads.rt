@@ -35,7 +35,7 @@ impl<'a, R: Reading> BlockShelf<'a, R> {
         self.current.get(channel as usize).copied().unwrap_or(0)
     }
 
-    // Whether the current block of the link's channel is the one that the link saw.
+    // Whether the current block of the link's channel is the one that the link saw. (0 for no channel, as the rules say.)
     pub(crate) fn is_live(&self, at: usize) -> bool
         ensures { result ≡ is_live (block_state self.now) at }
     {

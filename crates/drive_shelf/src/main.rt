@@ -28,7 +28,7 @@ fn print_blocks(rt: &impl Print, blocks: &[Tally]) -> io::Result<()> {
     println!(rt; "")
 }
 
-// The shelf that a script's first byte names.
+// The shelf that a script's first byte names. (No `From`: the type is another crate's, and any other byte is a block shelf.)
 fn shelf_type(code: u8) -> ShelfType {
     match code {
         0 => ShelfType::Flag,
@@ -53,21 +53,11 @@ fn run(rt: &HostRuntime) -> anyhow::Result<()> {
     match shelf_type(*code) {
         ShelfType::Flag => {
             let mut shelf = FlagShelf::make(rt.alloc(), plan, row)?;
-            drive(
-                rt,
-                &mut shelf,
-                calls,
-                |shelf, command| answer_of(shelf, command),
-            )?;
+            drive(rt, &mut shelf, calls, answer_of)?;
         }
         ShelfType::Block => {
             let mut shelf = BlockShelf::make(rt.alloc(), plan, row)?;
-            drive(
-                rt,
-                &mut shelf,
-                calls,
-                |shelf, command| answer_with_places(shelf, command),
-            )?;
+            drive(rt, &mut shelf, calls, answer_with_places)?;
         }
     }
     print_blocks(rt, &blocks)?;

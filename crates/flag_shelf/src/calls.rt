@@ -68,6 +68,7 @@ fn break_marks(marks: &mut [Mark], channel: u8)
     }
 }
 
+// What these take beside the party are the parts of the job that `turn` has just matched.
 impl<'a, R: Reading> FlagShelf<'a, R> {
     // The take comes into force and ends: the channel's reading is copied to the link's block.
     pub(crate) fn end_take(&mut self, party: u8, at: usize, channel: u8) -> Answer

@@ -12,6 +12,7 @@ use shelf::answer::Answer;
 use shelf::numbering::Standing;
 use shelf::shelf::Shelf;
 
+// Alike in shape to the block shelf's, since both implement one trait; each call keeps its own shelf's rules.
 impl<'a, R: Reading> Shelf for FlagShelf<'a, R> {
     type Item = R;
 

@@ -5,6 +5,7 @@ ghost use Rattle.reading.specs.Captures.{capture_kind, capture_admits, capture_a
 use crate::capture::Capture;
 use crate::kind::Reading;
 
+// The fields of a word: each its own place and width, so each a line of its own.
 fn first_field(word: u64) -> u32
     ensures { result ≡ first_of word }
 {
@@ -48,6 +49,7 @@ impl Reading for Capture {
             self.levels = levels;
             self
         } else if (first as u64) + (samples as u64) < 1 << 32 {
+            // tested here once more, since whoever makes a capture owes its bound
             Capture {
                 first,
                 samples,

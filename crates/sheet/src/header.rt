@@ -8,6 +8,8 @@ use crate::words::{Fault, Header, Kind};
 use plan::check::{Plan, ShelfType};
 use plan::refusal::Refusal;
 
+// Each field is taken by `let .. else` where it stands, and sizes are told by a match with a guard: rules of the project.
+
 // A field that has just one right value: the version and the spare bit.
 fn read_fixed(bits: &mut BitReader, width: usize, right: u64) -> Result<(), Fault>
     requires { width ≤ 64 }

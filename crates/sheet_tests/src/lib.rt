@@ -1,8 +1,6 @@
 //! Tests of plans, kinds of reading and run sheets on examples.
 #![tactic(auto)]
 
-ghost use Rattle.std.specs.Prelude.{◌<◌};
-
 #[cfg(test)]
 mod tests {
     use plan::check::{Plan, ShelfType, check_plan};
@@ -603,12 +601,10 @@ mod tests {
     }
 
     // A header, turns of one byte each, and the end: `bytes` in all.
-    fn turns(rt: &HostRuntime, bytes: usize) -> Result<Vec<u8>, Fail>
-        requires { 0 < bytes }
-    {
+    fn turns(rt: &HostRuntime, bytes: usize) -> Result<Vec<u8>, Fail> {
         let mut sheet = Vec::new(rt.alloc());
         sheet.extend_from_slice(&[0x11, 0x11, 0x02])?;
-        sheet.resize(bytes - 1, 0x60)?;
+        sheet.resize(bytes.max(4) - 1, 0x60)?;
         sheet.push(0)?;
         Ok(sheet)
     }
@@ -639,7 +635,7 @@ mod tests {
         Ok(())
     }
 
-    // The number by which a plan is refused, if it is.
+    // The number by which a plan is refused, if it is. (The sizes are three numbers here, so that a case is one line.)
     fn refused(
         parties: u8,
         links: u8,

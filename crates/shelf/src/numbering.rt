@@ -7,7 +7,8 @@ use plan::check::Plan;
 use plan::refusal::Refusal;
 
 /// What the tests before a call look at: the plan, whether a party rests, and whether a link is held. A link is given
-/// by its number among the links of all parties.
+/// by its number among the links of all parties. (A trait beside `Shelf`, which has questions like two of these: with it a
+/// maker's calls begin, before the shelf's own contracts can be used; another maker may begin otherwise.)
 pub trait Standing {
     ghost sizes: { Self → PlanIn };
 

@@ -25,12 +25,15 @@ fn store<R: Copy>(blocks: &mut [R], at: usize, reading: R)
 fn blank_first<R: Reading>(blocks: &mut [R], n: usize)
     ensures { blocks.new ≡ replicate (min n (length blocks.old)) R.Reading.kind.blank ++ drop (min n (length blocks.old)) blocks.old }
 {
+    // a loop: `fill` asks that a clone cannot fail, which no bound says of R
     let count = n.min(blocks.len());
     for block in &mut blocks[..count] {
         *block = R::blank();
     }
 }
 
+// The methods hand the slice to the functions above, a rule of the project. `lent` stands in several contracts: it ties
+// two states of a row, so no invariant can say it.
 impl<'a, R: Copy> BlockRow<'a, R> {
     /// The row of the lent blocks.
     pub fn new(blocks: &'a mut [R]) -> BlockRow<'a, R>

@@ -15,7 +15,7 @@ use reading::kind::Reading;
 /// The ghost member `rules` has the shelf's exact rules, what they mean, and the laws that hold of that meaning;
 /// `state` is what the shelf's fields stand for, and the trait's own laws say that the laws of the rules hold of it.
 /// Each call's answer and the state after it are pinned by the rules, and a refused call leaves the state as it was.
-/// A party and its link are two numbers in each call, as callers have them, and not one value of a type of their own.
+/// A party and its link are two numbers in each call, as callers have them; a pair would have to be made at each call.
 pub trait Shelf {
     type Item: Reading;
 
