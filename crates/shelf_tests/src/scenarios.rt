@@ -30,12 +30,12 @@ pub fn ended<S: Shelf>(shelf: &mut S, party: u8) -> Result<Answer, Refusal> {
 }
 
 // The word that a link shows.
-fn shown<S: Shelf>(shelf: &S, party: u8, link: u8) -> Result<u64, Refusal> {
+pub fn shown<S: Shelf>(shelf: &S, party: u8, link: u8) -> Result<u64, Refusal> {
     Ok(shelf.look(party, link)?.shown())
 }
 
 // Takes a channel on a link.
-fn take<S: Shelf>(shelf: &mut S, party: u8, link: u8, channel: u8) -> Result<Answer, Refusal> {
+pub fn take<S: Shelf>(shelf: &mut S, party: u8, link: u8, channel: u8) -> Result<Answer, Refusal> {
     shelf.start_take(party, link, channel)?;
     ended(shelf, party)
 }
@@ -46,7 +46,7 @@ fn put<S: Shelf>(shelf: &mut S, party: u8, link: u8, word: u64) -> Result<Answer
     ended(shelf, party)
 }
 
-fn check_link<S: Shelf>(shelf: &mut S, party: u8, link: u8) -> Result<Answer, Refusal> {
+pub fn check_link<S: Shelf>(shelf: &mut S, party: u8, link: u8) -> Result<Answer, Refusal> {
     shelf.start_check(party, link)?;
     ended(shelf, party)
 }
