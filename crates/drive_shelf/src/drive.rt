@@ -7,7 +7,7 @@ use shelf::shelf::Shelf;
 use std::io;
 
 /// What a shelf answers; the place question is not one of every shelf's.
-pub fn answer_of<S: Shelf>(shelf: &mut S, command: Command) -> Result<Reply, Refusal> {
+pub(crate) fn answer_of<S: Shelf>(shelf: &mut S, command: Command) -> Result<Reply, Refusal> {
     match command {
         Command::Take {
             party,
@@ -30,7 +30,7 @@ pub fn answer_of<S: Shelf>(shelf: &mut S, command: Command) -> Result<Reply, Ref
 }
 
 /// What a block shelf answers.
-pub fn answer_with_places(
+pub(crate) fn answer_with_places(
     shelf: &mut BlockShelf<Tally>,
     command: Command,
 ) -> Result<Reply, Refusal> {
@@ -41,7 +41,7 @@ pub fn answer_with_places(
 }
 
 /// Carries out calls on a shelf and prints what each answers.
-pub fn drive<S: Shelf, F: Fn(&mut S, Command) -> Result<Reply, Refusal>>(
+pub(crate) fn drive<S: Shelf, F: Fn(&mut S, Command) -> Result<Reply, Refusal>>(
     rt: &impl Print,
     shelf: &mut S,
     calls: &[u8],

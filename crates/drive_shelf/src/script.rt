@@ -3,11 +3,11 @@ use shelf::answer::Answer;
 use std::fmt;
 
 /// Six bytes for the shelf and 65,536 calls of four.
-pub const MOST_BYTES: u64 = 262_150;
+pub(crate) const MOST_BYTES: u64 = 262_150;
 
 /// A call of a script.
 #[derive(Clone, Copy)]
-pub enum Command {
+pub(crate) enum Command {
     Take { party: u8, link: u8, channel: u8 },
     Put { party: u8, link: u8, reading: u8 },
     Check { party: u8, link: u8 },
@@ -19,7 +19,7 @@ pub enum Command {
 }
 
 /// The call that four bytes stand for; none ends the script. (A match by code: here a byte becomes a command.)
-pub fn decode(bytes: &[u8]) -> Option<Command> {
+pub(crate) fn decode(bytes: &[u8]) -> Option<Command> {
     let [code, a, b, c] = bytes else {
         return None;
     };
@@ -49,7 +49,7 @@ pub fn decode(bytes: &[u8]) -> Option<Command> {
 
 /// What a call answers that is not refused.
 #[derive(Clone, Copy)]
-pub enum Reply {
+pub(crate) enum Reply {
     Granted,
     Shows(u64),
     Turned(Answer),

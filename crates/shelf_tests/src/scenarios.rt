@@ -7,19 +7,19 @@ use shelf::shelf::Shelf;
 use std::process::Abort;
 use std::test::Fail;
 
-pub const SMALL: Plan = Plan {
+pub(crate) const SMALL: Plan = Plan {
     parties: 3,
     links: 2,
     channels: 2,
 };
 
 // The number that a call is refused with, if it is.
-pub fn refusal<T: Drop>(answer: Result<T, Refusal>) -> Option<u8> {
+pub(crate) fn refusal<T: Drop>(answer: Result<T, Refusal>) -> Option<u8> {
     answer.err().map(Refusal::number)
 }
 
 // Gives turns until the operation ends, at most as many as an undisturbed one has, and answers what the last answered.
-pub fn ended<S: Shelf>(shelf: &mut S, party: u8) -> Result<Answer, Refusal> {
+pub(crate) fn ended<S: Shelf>(shelf: &mut S, party: u8) -> Result<Answer, Refusal> {
     for _ in 0..shelf.patience() {
         let answer = shelf.turn(party)?;
         if answer != Answer::Run {
@@ -30,12 +30,17 @@ pub fn ended<S: Shelf>(shelf: &mut S, party: u8) -> Result<Answer, Refusal> {
 }
 
 // The word that a link shows.
-pub fn shown<S: Shelf>(shelf: &S, party: u8, link: u8) -> Result<u64, Refusal> {
+pub(crate) fn shown<S: Shelf>(shelf: &S, party: u8, link: u8) -> Result<u64, Refusal> {
     Ok(shelf.look(party, link)?.shown())
 }
 
 // Takes a channel on a link.
-pub fn take<S: Shelf>(shelf: &mut S, party: u8, link: u8, channel: u8) -> Result<Answer, Refusal> {
+pub(crate) fn take<S: Shelf>(
+    shelf: &mut S,
+    party: u8,
+    link: u8,
+    channel: u8,
+) -> Result<Answer, Refusal> {
     shelf.start_take(party, link, channel)?;
     ended(shelf, party)
 }
@@ -46,13 +51,13 @@ fn put<S: Shelf>(shelf: &mut S, party: u8, link: u8, word: u64) -> Result<Answer
     ended(shelf, party)
 }
 
-pub fn check_link<S: Shelf>(shelf: &mut S, party: u8, link: u8) -> Result<Answer, Refusal> {
+pub(crate) fn check_link<S: Shelf>(shelf: &mut S, party: u8, link: u8) -> Result<Answer, Refusal> {
     shelf.start_check(party, link)?;
     ended(shelf, party)
 }
 
 // A channel that went 7, 8, 7 has broken its links, which still show 7; another channel's links live on.
-pub fn there_and_back<S: Shelf>(rt: &impl Abort, shelf: &mut S) -> Result<(), Fail> {
+pub(crate) fn there_and_back<S: Shelf>(rt: &impl Abort, shelf: &mut S) -> Result<(), Fail> {
     assert_eq!(rt; take(shelf, 0, 0, 0), Ok(Answer::Taken));
     assert_eq!(rt; put(shelf, 0, 0, 7), Ok(Answer::Stored));
     assert_eq!(rt; take(shelf, 1, 0, 0), Ok(Answer::Taken));
@@ -73,7 +78,7 @@ pub fn there_and_back<S: Shelf>(rt: &impl Abort, shelf: &mut S) -> Result<(), Fa
 }
 
 // Three parties on one channel: of two puts on links taken together the first stores, the second misses.
-pub fn contention<S: Shelf>(rt: &impl Abort, shelf: &mut S) -> Result<(), Fail> {
+pub(crate) fn contention<S: Shelf>(rt: &impl Abort, shelf: &mut S) -> Result<(), Fail> {
     assert_eq!(rt; refusal(shelf.start_take(0, 0, 1)), None);
     assert_eq!(rt; refusal(shelf.start_take(1, 0, 1)), None);
     assert_eq!(rt; ended(shelf, 1), Ok(Answer::Taken));
@@ -99,7 +104,7 @@ pub fn contention<S: Shelf>(rt: &impl Abort, shelf: &mut S) -> Result<(), Fail> 
 }
 
 // Refusals in the order of the table, and nothing changed by them.
-pub fn refusals<S: Shelf>(rt: &impl Abort, shelf: &mut S) -> Result<(), Fail> {
+pub(crate) fn refusals<S: Shelf>(rt: &impl Abort, shelf: &mut S) -> Result<(), Fail> {
     assert_eq!(rt; take(shelf, 0, 0, 0), Ok(Answer::Taken));
     assert_eq!(rt; refusal(shelf.start_take(1, 0, 0)), None);
     assert_eq!(rt; refusal(shelf.start_take(3, 9, 9)), Some(1));
