@@ -1,3 +1,3 @@
 pub mod Members
+pub mod Stacks
 pub mod Standing
-pub mod Sorting

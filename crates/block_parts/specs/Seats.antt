@@ -5,10 +5,11 @@ use Rattle.block_rules.specs.declared.parts.Place.{Place}
 use Rattle.block_rules.specs.declared.parts.Place.TheVariants.{Ready, Retired, InHand}
 use Rattle.block_rules.specs.Blocks.{Party, in_hand, taken_up, among, noted}
 use Rattle.block_parts.specs.declared.seat.Seat.{Seat}
+use Rattle.block_parts.specs.Lists.{blocks_in}
 
 -- the top of the ready stack is the last of its list
 abbrev pub party_of : Seat → Party
-party_of q = record { ready = reverse q.ready.items; retired = q.retired.items; read = q.read.items; job = q.job }
+party_of q = record { ready = reverse (blocks_in q.ready); retired = blocks_in q.retired; read = blocks_in q.read; job = q.job }
 
 -- the top of a stack, and the party after it went into hand for a put on link j
 abbrev pub top_of : List ℕ → Option ℕ

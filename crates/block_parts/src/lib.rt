@@ -2,5 +2,6 @@
 #![tactic(auto)]
 
 pub mod block_list;
+mod lists;
 pub mod seat;
 mod seats;

@@ -1,5 +1,6 @@
 ghost use Rattle.std.specs.Prelude.{◌≡◌, ◌+◌, ◌<◌, ◌≤◌, ◌++◌, length};
 ghost use Rattle.block_rules.specs.Blocks.{missing, retiring, after_put_answer, noted, unread, still_held, freeing};
+ghost use Rattle.block_parts.specs.Lists.{blocks_in};
 ghost use Rattle.block_parts.specs.Seats.{party_of, top_of, took_up, going_on, place_with};
 
 use crate::block_list::{BlockList, MOST_BLOCKS};
@@ -24,7 +25,7 @@ impl Seat {
     pub fn miss(&mut self, block: u16)
         ensures { length (party_of self.old).ready < MOST_BLOCKS → party_of self.new ≡ missing (party_of self.old) block }
     {
-        self.ready.try_push(block).ok();
+        self.ready.push(block);
         self.job = Job::Idle;
     }
 
@@ -34,7 +35,7 @@ impl Seat {
         ensures answer { result ≡ after_put_answer (party_of self.old).ready }
         ensures party { length (party_of self.old).retired < MOST_BLOCKS → party_of self.new ≡ retiring (party_of self.old) link seen }
     {
-        self.retired.try_push(seen).ok();
+        self.retired.push(seen);
         self.read.clear();
         if self.ready.is_empty() {
             self.job = Job::Scanning(link, 0);
@@ -58,7 +59,7 @@ impl Seat {
             → party_of self.new ≡ freeing (party_of self.old) (noted guard (party_of self.old).read) }
     {
         note(&mut self.read, guard);
-        sort_out(&mut self.ready, &mut self.retired, &self.read);
+        self.retired = sort_out(&mut self.ready, &self.retired, &self.read);
         self.job = Job::Idle;
     }
 
@@ -67,10 +68,10 @@ impl Seat {
     pub fn place_of(&self, party: u8, block: u16) -> Option<Place>
         ensures { result ≡ place_with (party_of self.now) party block }
     {
-        if self.ready.contains(&block) {
+        if self.ready.contains(block) {
             return Some(Place::Ready(party));
         }
-        if self.retired.contains(&block) {
+        if self.retired.contains(block) {
             return Some(Place::Retired(party));
         }
         if matches!(self.job, Job::Putting(_, hand) if hand == block) {
@@ -82,24 +83,27 @@ impl Seat {
 
 // Notes the block of a guard, if it has one.
 fn note(read: &mut BlockList, guard: Option<u16>)
-    ensures { length read.old.items < MOST_BLOCKS → read.new.items ≡ noted guard read.old.items }
+    ensures { length (blocks_in read.old) < MOST_BLOCKS → blocks_in read.new ≡ noted guard (blocks_in read.old) }
 {
     if let Some(block) = guard {
-        read.try_push(block).ok();
+        read.push(block);
     }
 }
 
 // Sorts the retired blocks: those that were not read in a guard go on top of ready, in their order, if there is room;
-// the others stay.
-fn sort_out(ready: &mut BlockList, retired: &mut BlockList, read: &BlockList)
-    ensures freed { length ready.old.items + length retired.old.items ≤ MOST_BLOCKS
-        → ready.new.items ≡ ready.old.items ++ unread read.now.items retired.old.items }
-    ensures kept { retired.new.items ≡ still_held read.now.items retired.old.items }
+// the others are answered.
+fn sort_out(ready: &mut BlockList, retired: &BlockList, read: &BlockList) -> BlockList
+    ensures freed { length (blocks_in ready.old) + length (blocks_in retired.now) ≤ MOST_BLOCKS
+        → blocks_in ready.new ≡ blocks_in ready.old ++ unread (blocks_in read.now) (blocks_in retired.now) }
+    ensures kept { blocks_in result ≡ still_held (blocks_in read.now) (blocks_in retired.now) }
 {
-    let freed = retired
-        .iter()
-        .copied()
-        .filter(|block| !read.contains(block));
-    ready.extend(freed).ok();
-    retired.retain(|block| read.contains(block));
+    let mut held = BlockList::new();
+    for block in retired.as_slice() {
+        if read.contains(*block) {
+            held.push(*block);
+        } else {
+            ready.push(*block);
+        }
+    }
+    held
 }

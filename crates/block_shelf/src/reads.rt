@@ -60,6 +60,6 @@ impl<'a, R: Reading> Standing for BlockShelf<'a, R> {
     }
 
     fn is_held(&self, at: usize) -> bool {
-        self.link(at).hold.is_some()
+        self.links.get(at).is_some_and(|link| link.hold.is_some())
     }
 }

@@ -32,7 +32,12 @@ impl<'a, R: Reading> FlagShelf<'a, R> {
         ensures lent { IfOk result (λ s. s.row.blocks.ghost_name ≡ row.entry.blocks.ghost_name) }
         ensures succeeds { (n : ℕ) → refused n ≡ plan_verdict plan Flag (length row.entry.blocks.now) → is_ok result ≡ true }
     {
-        let plan = check_plan(plan, ShelfType::Flag, row.len()).unwrap_or_default();
+        let none = Plan {
+            parties: 0,
+            links: 0,
+            channels: 0,
+        };
+        let plan = check_plan(plan, ShelfType::Flag, row.len()).unwrap_or(none);
         let marks = filled(heap, Mark::Empty, plan.all_links())?;
         let jobs = filled(heap, Job::Idle, plan.parties as usize)?;
         row.blank_first(plan.blocks_needed(ShelfType::Flag));

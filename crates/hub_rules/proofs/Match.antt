@@ -12,7 +12,7 @@ use Rattle.history.proofs.Hub.{Stage, taking, putting, checking, Task, free, doi
 use Rattle.history.proofs.Fitting.{Ready}
 use Rattle.hub_rules.specs.declared.parts.Party.{Party}
 use Rattle.hub_rules.specs.declared.parts.Party.TheVariants.{Idle, AmendmentTake, AmendmentPut, PictureTake, PictureCheck}
-use Rattle.hub_rules.specs.Hub.{Hub}
+use Rattle.hub_rules.specs.Hub.{Hub, channels_of}
 
 abbrev pub answer_of : Said → Answer
 answer_of taken = Taken
@@ -26,16 +26,16 @@ abbrev pub task_of : Party → Task
 task_of Idle = free
 task_of (AmendmentTake c w) = doing (amendment c w) (taking 0)
 task_of (AmendmentPut c w) = doing (amendment c w) putting
-task_of (PictureTake l i) = doing (picture l.items) (taking i)
-task_of (PictureCheck l i) = doing (picture l.items) (checking i)
+task_of (PictureTake l i) = doing (picture (channels_of l)) (taking i)
+task_of (PictureCheck l i) = doing (picture (channels_of l)) (checking i)
 
 -- the order and the stage of an operation that runs
 abbrev pub order_of : Party → Order
 order_of Idle = picture []
 order_of (AmendmentTake c w) = amendment c w
 order_of (AmendmentPut c w) = amendment c w
-order_of (PictureTake l i) = picture l.items
-order_of (PictureCheck l i) = picture l.items
+order_of (PictureTake l i) = picture (channels_of l)
+order_of (PictureCheck l i) = picture (channels_of l)
 
 abbrev pub stage_of : Party → Stage
 stage_of Idle = putting

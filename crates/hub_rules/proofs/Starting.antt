@@ -16,10 +16,10 @@ use Rattle.history.proofs.Hub as N
 use Rattle.history.proofs.Hub.{Wants, want_take, want_put, want_check, Begun, begun_before, begun_now}
 use Rattle.history.proofs.Fitting.{Ready, CanBegin}
 use Rattle.history.proofs.Basics.{updated_same, updated_other, at_party}
-use Rattle.arrayvec.specs.ArrayVec.{ArrayVec}
+use Rattle.hub_rules.specs.declared.parts.ChannelList.{ChannelList}
 use Rattle.hub_rules.specs.declared.parts.Party.{Party}
 use Rattle.hub_rules.specs.declared.parts.Party.TheVariants.{Idle, AmendmentTake, AmendmentPut, PictureTake, PictureCheck}
-use Rattle.hub_rules.specs.Hub.{taken_by, started, begun}
+use Rattle.hub_rules.specs.Hub.{channels_of, taken_by, started, begun}
 use Rattle.hub_rules.proofs.Match.{order_of, stage_of, flat_operation, CanWait, Fits, Shelved, does_at, link_is}
 use Rattle.hub_rules.proofs.Force.{redo, relink, relink_ready}
 use Rattle.hub_rules.proofs.Turning.{busy_back, job_idle}
@@ -149,12 +149,12 @@ module _ {R : Type 0} (kind : KindOf R) (rules : Rules R) (pl : Plan) (w : ℕ) 
           (want_put c v rd.channel rd.reading rd.is_live rd.is) (start_put 0 value rd.channel rd.reading rd.is_live rd.is) law.0
           (rw (law.1, ok.plan) (waiting (put 0 value) (in_0, rd)))
 
-      begin_check : (l : ArrayVec ℕ) (j : ℕ) → j < pl.links → Ready (m.link p j) → BegunMatched s m p (PictureCheck l j)
+      begin_check : (l : ChannelList) (j : ℕ) → j < pl.links → Ready (m.link p j) → BegunMatched s m p (PictureCheck l j)
       begin_check l j in_j rd =
           let law = rules.checks s p (flat (rules.plan s) p j) ok.sound in_plan (own_flat (rules.plan s) p j (in_links j in_j)) free (not_vacant j in_j rd) in
           begin (PictureCheck l j) (check j) m.link (rules.start_check s p (flat (rules.plan s) p j))
           (started_is (C.Check p j) (full_tests j in_j rd))
-          (want_check l.items j) (start_check j rd.channel rd.reading rd.is_live rd.is) law.0
+          (want_check (channels_of l) j) (start_check j rd.channel rd.reading rd.is_live rd.is) law.0
           (rw (law.1, ok.plan) (waiting (check j) (in_j, rd)))
 
     module _ (plan : N.Plan) (same_links : plan.links ≡ pl.links) (same_channels : plan.channels ≡ pl.channels) where
@@ -163,7 +163,7 @@ module _ {R : Type 0} (kind : KindOf R) (rules : Rules R) (pl : Plan) (w : ℕ) 
       begin_free (AmendmentTake c v) free b = begin_take free (AmendmentTake c v) 0 c refl (want_take (amendment c v) 0) (let u = b.0 in let v = b.1 in omega arith) (let u = b.2 in omega arith)
       begin_free (AmendmentPut c v) free b = begin_put free c v (let u = b.1 in omega arith) b.0
       begin_free (PictureTake l i) free b =
-          begin_take free (PictureTake l i) i (get_or l.items i 0) refl (want_take (picture l.items) i) (let u = b.0 in let v = b.1 in omega arith) (let u = b.2 in omega arith)
+          begin_take free (PictureTake l i) i (get_or (channels_of l) i 0) refl (want_take (picture (channels_of l)) i) (let u = b.0 in let v = b.1 in omega arith) (let u = b.2 in omega arith)
       begin_free (PictureCheck l i) free b = begin_check free l i (let u = b.1 in omega arith) b.0
 
       -- an operation runs already

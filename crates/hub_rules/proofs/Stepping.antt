@@ -24,13 +24,13 @@ use Rattle.history.proofs.Shape.{past_begins, past_says, past_amends, past_ready
 use Rattle.hub_rules.specs.declared.parts.Party.{Party}
 use Rattle.hub_rules.specs.declared.parts.Party.TheVariants.{Idle, AmendmentTake, AmendmentPut, PictureTake, PictureCheck}
 use Rattle.hub_rules.specs.declared.parts.Progress.TheVariants as progress
-use Rattle.hub_rules.specs.Hub.{Call, Amendment, Picture, Turn, Release, Look, Hub, is_free, progress_of, next, emptied, begun, party_of, tests_of, ordered, next_at, turned, hub_after, after, turn_answer, looked}
+use Rattle.hub_rules.specs.Hub.{Call, Amendment, Picture, Turn, Release, Look, Hub, stored, is_free, progress_of, next, emptied, begun, party_of, tests_of, ordered, next_at, turned, hub_after, after, turn_answer, looked}
 use Rattle.hub_rules.specs.Law.{BringsIntoForce}
 use Rattle.hub_rules.proofs.Match.{answer_of, task_of, order_of, stage_of, Shelved, Matches, does_at, link_is}
 use Rattle.hub_rules.proofs.Turning.{said_of, TurnMatched, turn_matched}
 use Rattle.hub_rules.proofs.Starting.{BegunMatched, begun_matched}
 use Rattle.hub_rules.proofs.Emptying.{cleared_matched}
-use Rattle.hub_rules.proofs.Stages.{Leads, to_end, to_stage, leads, next_run, free_from, Runs, runs_from, below_at, apart_at}
+use Rattle.hub_rules.proofs.Stages.{stored_back, Leads, to_end, to_stage, leads, next_run, free_from, Runs, runs_from, below_at, apart_at}
 use Rattle.hub_rules.proofs.Hearing.{order_event, release_event, Told, quiet, event_of, refused_event}
 
 module _ {R : Type 0} where
@@ -281,7 +281,7 @@ module _ {R : Type 0} (kind : KindOf R) (rules : Rules R) (plan : N.Plan) (pl : 
         first l (suc i) m = absurd (omega arith)
     accepted_step (Picture p cs) a =
         let len = and_parts (leb 1 (length cs)) (leb (length cs) (rules.plan x.shelf).links) a.1.1.0 in
-        order_step p (PictureTake (record { items = cs }) 0) (picture cs) (Picture p cs) refl
+        order_step p (PictureTake (stored cs) 0) (picture cs) (Picture p cs) (ap (λ (z : List ℕ). doing (picture z) (taking 0)) (stored_back cs))
         (sym (ap (order_event p (picture cs)) (passes (tests_of kind rules x (Picture p cs)) tt a))) (serves p a.0 a.1.0)
         (record {
           some_listed = let z = leb-true _ _ len.0 in omega arith;

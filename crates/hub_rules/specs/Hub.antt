@@ -1,6 +1,6 @@
 -- The exact rules of the hub, over any shelf's rules and any kind of reading: when a call is refused, what it answers,
 -- and the hub then. They are total, since a hub may be made on any shelf.
-use Rattle.std.specs.Prelude.{ℕ, zero, suc, ◌+◌, Bool, true, false, cond, not, ◌&&◌, List, [], ◌∷◌, length, replicate, ◌==◌, nat_lt, slice_index, slice_index_or, slice_set}
+use Rattle.std.specs.Prelude.{ℕ, zero, suc, ◌+◌, ◌-◌, Bool, true, false, cond, not, ◌&&◌, List, [], ◌∷◌, ◌++◌, length, take, replicate, ◌==◌, nat_lt, slice_index, slice_index_or, slice_set}
 use Rattle.std.specs.List.{list_all, list_any}
 use Rattle.plan.specs.Refusals.{Outcome, accepted, refused, Test, unless_refused}
 use Rattle.plan.specs.Plans.{between}
@@ -12,6 +12,7 @@ use Rattle.shelf.specs.Meaning.{flat, Meaning, link_at, activity_of}
 use Rattle.shelf.specs.Rules.{Rules}
 use Rattle.shelf.specs.Calls as shelf
 use Rattle.shelf.specs.Calls.{is_idle, reading_on, leaves}
+use Rattle.hub_rules.specs.declared.parts.ChannelList.{ChannelList}
 use Rattle.hub_rules.specs.declared.parts.Party.{Party}
 use Rattle.hub_rules.specs.declared.parts.Party.TheVariants.{Idle, AmendmentTake, AmendmentPut, PictureTake, PictureCheck}
 use Rattle.hub_rules.specs.declared.parts.Progress.{Progress}
@@ -34,6 +35,13 @@ abbrev pub made_on : {R : Type 0} (rules : Rules R) → rules.State → Hub rule
 made_on rules s = record { shelf = s; table = replicate (rules.plan s).parties Idle }
 
 -- ** lists of channels
+
+-- the channels of a stored list, and a list of at most four as it is stored
+abbrev pub channels_of : ChannelList → List ℕ
+channels_of l = take l.count l.channels
+
+abbrev pub stored : List ℕ → ChannelList
+stored cs = record { channels = cs ++ replicate (4 - length cs) 0; count = length cs }
 
 -- no channel stands twice
 abbrev pub none_twice : List ℕ → Bool
@@ -73,7 +81,7 @@ next (AmendmentPut c w) Missed = AmendmentTake c w
 next (AmendmentPut c w) Live = AmendmentPut c w
 next (AmendmentPut c w) Broken = AmendmentPut c w
 next (PictureTake l i) Run = PictureTake l i
-next (PictureTake l i) Taken = cond (nat_lt (i + 1) (length l.items)) (PictureTake l (i + 1)) (PictureCheck l 0)
+next (PictureTake l i) Taken = cond (nat_lt (i + 1) (length (channels_of l))) (PictureTake l (i + 1)) (PictureCheck l 0)
 next (PictureTake l i) Stored = PictureTake l i
 next (PictureTake l i) Missed = PictureTake l i
 next (PictureTake l i) Live = PictureTake l i
@@ -82,7 +90,7 @@ next (PictureCheck l i) Run = PictureCheck l i
 next (PictureCheck l i) Taken = PictureCheck l i
 next (PictureCheck l i) Stored = PictureCheck l i
 next (PictureCheck l i) Missed = PictureCheck l i
-next (PictureCheck l i) Live = cond (nat_lt (i + 1) (length l.items)) (PictureCheck l (i + 1)) Idle
+next (PictureCheck l i) Live = cond (nat_lt (i + 1) (length (channels_of l))) (PictureCheck l (i + 1)) Idle
 next (PictureCheck l i) Broken = PictureTake l 0
 
 abbrev pub next_of : Party → Outcome Answer → Party
@@ -115,7 +123,7 @@ module _ {R : Type 0} (kind : KindOf R) (rules : Rules R) where
   begun s p Idle = s
   begun s p (AmendmentTake c w) = started s p (shelf.Take p 0 c)
   begun s p (AmendmentPut c w) = started s p (shelf.Put p 0 (kind.amended (taken_by s p) w))
-  begun s p (PictureTake l i) = started s p (shelf.Take p i (slice_index l.items i))
+  begun s p (PictureTake l i) = started s p (shelf.Take p i (slice_index (channels_of l) i))
   begun s p (PictureCheck l i) = started s p (shelf.Check p i)
 
   -- ** the calls
@@ -173,7 +181,7 @@ module _ {R : Type 0} (kind : KindOf R) (rules : Rules R) where
     -- the hub after an accepted call
     abbrev pub hub_after : Call → Hub rules
     hub_after (Amendment p c w) = ordered p (AmendmentTake c w)
-    hub_after (Picture p cs) = ordered p (PictureTake (record { items = cs }) 0)
+    hub_after (Picture p cs) = ordered p (PictureTake (stored cs) 0)
     hub_after (Turn p) = turned p (party_of h p)
     hub_after (Release p) = record { shelf = emptied h.shelf p plan_of.links; table = h.table }
     hub_after (Look p i) = h

@@ -1,13 +1,16 @@
-use arrayvec::ArrayVec;
-
 /// The most channels that a picture may list: a party has at most so many links.
 pub const MOST_LISTED: usize = 4;
 
-/// The channels that a picture lists, in the order of the links that are to hold them.
-pub type ChannelList = ArrayVec<u8, MOST_LISTED>;
+/// The channels that a picture lists: as many as `count` says, in the order of the links that are to hold them. (A buffer
+/// of its own with its length, since the list is `Copy`, which the library's vector of fixed room is not.)
+#[derive(Clone, Copy)]
+pub struct ChannelList {
+    pub channels: [u8; MOST_LISTED],
+    pub count: u8,
+}
 
 /// What the hub keeps of a party: the operation that runs, and how far it is. It keeps no reading.
-#[derive(Clone, Drop)]
+#[derive(Clone, Copy)]
 pub enum Party {
     /// No operation runs.
     Idle,

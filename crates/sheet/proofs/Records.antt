@@ -1,5 +1,6 @@
 -- Records: a picture's channels one by one, and what follows each code.
-use Rattle.std.proofs.Common.{◌≡◌, ℕ, suc, ◌+◌, ◌-◌, ◌<◌, Bool, true, false, cond, List, [], ◌∷◌, ◌++◌, drop, Some, None, Option, refl, arith}
+use Rattle.std.proofs.Common.{◌≡◌, ℕ, suc, ◌+◌, ◌-◌, ◌<◌, Bool, true, false, cond, List, [], ◌∷◌, ◌++◌, length, take, drop, set, Some, None, Option, refl, arith}
+use Rattle.std.proofs.lemmas.List.{take_more_set}
 use Rattle.sheet_rules.specs.Bits.{field_in}
 use Rattle.sheet_rules.specs.Contents.{Entry, picture, fault_at}
 use Rattle.sheet_rules.specs.Formats.{Format, gives, field, Read, got, fails, field_or, read_as, mapped, channels_format, picture_format, entry_format}
@@ -13,6 +14,12 @@ one_more count i h = omega arith
 pub channel_read : (count i : ℕ) (cs : List ℕ) (old new : Rest) (v : ℕ) → i < count → Some v ≡ field_in old.bits 7 → new ≡ behind 7 old
     → read_as (channels_format (count - (i + 1)) (cs ++ (v ∷ []))) new.bits new.place ≡ read_as (channels_format (count - i) cs) old.bits old.place
 channel_read count i cs old new v h e m = rw (m, one_more count i h, ← e) refl
+
+-- a turn of the loop that stores the channels
+pub channel_stored : (count i : ℕ) → i < count → (channels : List ℕ) → i < length channels → (old new : Rest) (v : ℕ)
+    → Some v ≡ field_in old.bits 7 → new ≡ behind 7 old
+    → read_as (channels_format (count - (i + 1)) (take (i + 1) (set channels i v))) new.bits new.place ≡ read_as (channels_format (count - i) (take i channels)) old.bits old.place
+channel_stored count i h channels l old new v e m = rw (take_more_set channels i v l) (channel_read count i (take i channels) old new v h e m)
 
 -- what a format gives, taken further
 abbrev pub map_read : {A B : Type 0} → (A → B) → Read A → Read B

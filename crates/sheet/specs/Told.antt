@@ -1,12 +1,12 @@
 -- What the reader's answers tell, in the words of the law of sheets.
-use Rattle.std.specs.Prelude.{◌≡◌, ℕ, Bool, List, map, Some, None, Ok, Err, Option, Result}
-use Rattle.arrayvec.specs.ArrayVec.{ArrayVec}
+use Rattle.std.specs.Prelude.{◌≡◌, ℕ, Bool, List, map, take, Some, None, Ok, Err, Option, Result}
 use Rattle.plan.specs.Refusals.{refusal_number}
 use Rattle.plan.specs.declared.check.ShelfType.{ShelfType}
 use Rattle.plan.specs.declared.check.ShelfType.TheVariants.{Flag, Block}
 use Rattle.sheet_rules.specs.Contents as S
 use Rattle.sheet_rules.specs.Formats.{Format, gives, field, Read, got, fails, read_as}
 use Rattle.sheet.specs.Rest.{Rest}
+use Rattle.sheet.specs.declared.channel_list.ChannelList.{ChannelList}
 use Rattle.sheet.specs.declared.words.Kind.{Kind}
 use Rattle.sheet.specs.declared.words.Kind.TheVariants.{Tally, Capture}
 use Rattle.sheet.specs.declared.words.Header.{Header}
@@ -36,8 +36,8 @@ header_told h = record {
 }
 
 -- the channels that a picture lists, in order
-abbrev pub channels_of : ArrayVec ℕ → List ℕ
-channels_of l = l.items
+abbrev pub channels_of : ChannelList → List ℕ
+channels_of l = take l.count l.channels
 
 abbrev pub record_told : Record → S.Entry
 record_told (Amendment p c w) = S.amendment p c w

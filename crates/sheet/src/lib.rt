@@ -2,6 +2,8 @@
 #![tactic(auto)]
 
 mod bit_reader;
+pub mod channel_list;
+mod channels;
 mod header;
 mod record;
 pub mod sheet;

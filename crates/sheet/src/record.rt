@@ -4,8 +4,8 @@ ghost use Rattle.sheet.specs.Rest.{LeftOfSheet};
 ghost use Rattle.sheet.specs.Told.{channels_of, record_told, option_told, Reads};
 
 use crate::bit_reader::BitReader;
-use crate::words::{ChannelList, Fault, Record};
-use arrayvec::ArrayVec;
+use crate::channel_list::ChannelList;
+use crate::words::{Fault, Record};
 use plan::refusal::Refusal;
 
 fn read_amendment(bits: &mut BitReader) -> Result<Record, Fault>
@@ -33,14 +33,17 @@ fn read_channels(bits: &mut BitReader, count: usize) -> Result<ChannelList, Faul
     requires { count < 8 }
     ensures { Reads channels_of (channels_format count []) result bits.old bits.new }
 {
-    let mut channels = ArrayVec::new();
-    for _ in 0..count {
+    let mut channels = [0u8; 7];
+    for i in 0..count {
         let Some(channel) = bits.take(7) else {
             return Err(Fault::at(Refusal::SheetEndsEarly, bits.place()));
         };
-        channels.push(channel as u8);
+        channels[i] = channel as u8;
     }
-    Ok(channels)
+    Ok(ChannelList {
+        count: count as u8,
+        channels,
+    })
 }
 
 fn read_picture(bits: &mut BitReader) -> Result<Record, Fault>

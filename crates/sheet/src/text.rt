@@ -2,6 +2,7 @@
 ghost use Rattle.std.specs.Prelude.{Some};
 ghost use Rattle.sheet.specs.Words.{kind_word, layer_word, header_text, fault_text};
 
+use crate::channel_list::ChannelList;
 use crate::words::{Fault, Header, Kind, Layer, Record};
 use plan::check::Plan;
 use std::fmt;
@@ -34,6 +35,19 @@ impl fmt::Display for Header {
     }
 }
 
+impl fmt::Display for ChannelList {
+    fn fmt<W: fmt::Write>(&self, f: &mut fmt::Formatter<W>) -> fmt::Result {
+        let channels = self.as_slice();
+        if channels.is_empty() {
+            return f.write_str(" none");
+        }
+        for channel in channels {
+            write!(f, " {channel}")?;
+        }
+        Ok(())
+    }
+}
+
 impl fmt::Display for Record {
     fn fmt<W: fmt::Write>(&self, f: &mut fmt::Formatter<W>) -> fmt::Result {
         match self {
@@ -47,16 +61,10 @@ impl fmt::Display for Record {
                     "amendment party {party} channel {channel} word 0x{word:016X}"
                 )
             }
-            Record::Picture { party, channels } => {
-                write!(f, "picture party {party} channels")?;
-                if channels.is_empty() {
-                    return f.write_str(" none");
-                }
-                for channel in channels {
-                    write!(f, " {channel}")?;
-                }
-                Ok(())
-            }
+            Record::Picture { party, channels } => write!(
+                f,
+                "picture party {party} channels{channels}"
+            ),
             Record::Turn { party } => write!(f, "turn party {party}"),
             Record::Release { party } => write!(f, "release party {party}"),
             Record::Look { party, link } => write!(f, "look party {party} link {link}"),

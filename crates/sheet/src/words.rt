@@ -3,7 +3,7 @@ ghost use Rattle.sheet_rules.specs.Contents.{fault_at};
 ghost use Rattle.plan.specs.Refusals.{refusal_number};
 ghost use Rattle.sheet.specs.Told.{fault_told};
 
-use arrayvec::ArrayVec;
+use crate::channel_list::ChannelList;
 use plan::check::{Plan, ShelfType};
 use plan::refusal::Refusal;
 
@@ -22,11 +22,8 @@ pub struct Header {
     pub plan: Plan,
 }
 
-/// The channels that a picture lists: at most seven, since a sheet counts them in three bits.
-pub type ChannelList = ArrayVec<u8, 7>;
-
 /// One record of a sheet: a call of the hub.
-#[derive(Clone, Drop)]
+#[derive(Clone, Copy)]
 pub enum Record {
     Amendment { party: u8, channel: u8, word: u64 },
     Picture { party: u8, channels: ChannelList },

@@ -21,6 +21,9 @@ pub record Leads (bits : List ℕ) (k : ℕ) (es : List Entry) (rest : List ℕ)
   pub packs : bits ≡ packed_entries es ++ rest
   pub place : k' ≡ k + length (packed_entries es)
 
+pub leads_none : (bits : List ℕ) (k : ℕ) → Leads bits k [] bits k
+leads_none bits k = record { fit = tt; packs = refl; place = omega arith }
+
 pub leads_few : (bits : List ℕ) (k : ℕ) (es : List Entry) (rest : List ℕ) (k' : ℕ) → Leads bits k es rest k' → 8 * length es ≤ length bits
 leads_few bits k es rest k' t = omega (arith, ap length t.packs, length-append (packed_entries es) rest, few es)
 

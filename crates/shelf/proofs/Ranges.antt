@@ -2,7 +2,7 @@
 use Rattle.std.proofs.Common.{◌≡◌, ℕ, ◌≤◌, min, arith, leb, List, [], ◌∷◌, sym, subst}
 use Rattle.std.proofs.lemmas.Bool.{and_parts, leb-true}
 use Rattle.std.specs.Prelude.{Ok, Err, Result}
-use Rattle.std.specs.Result.{ResultUnwrapsOrElse}
+use Rattle.std.specs.Result.{ResultUnwrapsOrElse, result_unwrap_or}
 use Rattle.plan.specs.Refusals.{Test, accepted, refused, refusal_number, told}
 use Rattle.plan.specs.Plans.{between, need, plan_verdict, no_plan, InRange, Small}
 use Rattle.plan.specs.declared.check.Plan.{Plan}
@@ -58,6 +58,11 @@ pub plan_chosen : (pl : Plan) (shelf : ShelfType) (blocks : ℕ) (checked : Resu
     → ResultUnwrapsOrElse checked is_default-value.it p → Chosen pl shelf blocks p
 plan_chosen pl shelf blocks (Ok q) p e u = subst (Chosen pl shelf blocks) (sym u) (given q e)
 plan_chosen pl shelf blocks (Err r) p e u = let k : p ≡ no_plan = λ i. record { parties = u.0 i; links = u.1.0 i; channels = u.1.1 i } in subst (Chosen pl shelf blocks) (sym k) (none (refusal_number r) e)
+
+pub plan_or_none : (pl : Plan) (shelf : ShelfType) (blocks : ℕ) (checked : Result Plan Refusal) (p : Plan) → told checked ≡ plan_verdict pl shelf blocks
+    → p ≡ result_unwrap_or checked no_plan → Chosen pl shelf blocks p
+plan_or_none pl shelf blocks (Ok q) p e u = subst (Chosen pl shelf blocks) (sym u) (given q e)
+plan_or_none pl shelf blocks (Err r) p e u = subst (Chosen pl shelf blocks) (sym u) (none (refusal_number r) e)
 
 -- a shelf of the chosen plan has the blocks of its need
 pub chosen_fits : (pl : Plan) (shelf : ShelfType) (blocks : ℕ) (p : Plan) → Chosen pl shelf blocks p → min (need shelf p) blocks ≡ need shelf p

@@ -1,16 +1,40 @@
-use Rattle.std.proofs.Common.{not, rules, tests, arith}
-use Rattle.std.proofs.lemmas.Iterator.{YieldsList-from_slice}
-use Rattle.std.proofs.lemmas.Iterator.Consumers.{YieldsList-from_filter, YieldsList-from_copied, YieldsList-at}
-use Rattle.arrayvec.proofs.ArrayVecLemmas.{filter-from_retain}
-use Rattle.block_rules.specs.Blocks.{among}
-use Rattle.block_parts.proofs.Sorting.{extended, unread_length}
+use Rattle.std.proofs.Common.{ℕ, ◌≤◌, List, ◌++◌, length, sym, ap, ◌∙◌, subst, arith}
+use Rattle.std.proofs.lemmas.List.{take_all}
+use Rattle.block_rules.specs.Blocks.{unread, still_held}
+use Rattle.block_parts.specs.Lists.{blocks_in}
+use Rattle.block_parts.proofs.Stacks.{next_read, next_unread, list_small}
 use Rattle.block_parts.proofs.seats.sort_out.Goals as goal
+use Rattle.block_parts.proofs.seats.sort_out.Goals.{then-contains, else-contains}
 
-pub returns-clause-freed : goal.returns-clause-freed
-returns-clause-freed c fits =
-    extended _ _ c.extend.result c.extend.ensures.ran c.extend.ensures.full c.extend.ensures.one_more (omega (arith, fits, unread_length c.args.read.now.items c.args.retired.now.items))
-    (YieldsList-from_filter _ (λ b. not (among b c.args.read.now.items)) (YieldsList-at c.filter-freed.ensures.source (YieldsList-from_copied (YieldsList-at c.copied.ensures.source (YieldsList-from_slice _ cc))))
-    c.filter-freed.ensures.closure (λ x r q k. search (rules, tests)))
+pub loop-block-preserved : goal.loop-block-preserved
+loop-block-preserved c =
+    let items = c.as_slice-block-items.result.now in
+    let read = blocks_in c.args.read.now in
+    let before = blocks_in c.args.ready.now in
+    let i = c.loop-block.block-index in
+    let small : length items ≤ 97 = subst (λ (xs : List ℕ). length xs ≤ 97) (sym c.as_slice-block-items.ensures) (list_small c.args.retired.now) in
+    elim c.if-contains.branch [
+      | then-contains w ↦ (
+        λ fits. ap blocks_in w.ready-is ∙ (next_read read items before i c.loop-block-test.true small (blocks_in c.loop-block.ready) (blocks_in c.loop-block.held) c.loop-block.invariant
+            (sym w.if-contains.ensures) (blocks_in w.push.new.self) w.push.result w.push.ensures.room w.push.ensures.list).0 fits,
+        ap blocks_in w.held-is ∙ (next_read read items before i c.loop-block-test.true small (blocks_in c.loop-block.ready) (blocks_in c.loop-block.held) c.loop-block.invariant
+            (sym w.if-contains.ensures) (blocks_in w.push.new.self) w.push.result w.push.ensures.room w.push.ensures.list).1,
+      )
+      | else-contains w ↦ (
+        λ fits. ap blocks_in w.ready-is ∙ (next_unread read items before i c.loop-block-test.true small (blocks_in c.loop-block.ready) (blocks_in c.loop-block.held) c.loop-block.invariant
+            (sym w.if-contains.ensures) (blocks_in w.push-else-contains.new.self) w.push-else-contains.result w.push-else-contains.ensures.room w.push-else-contains.ensures.list).0 fits,
+        ap blocks_in w.held-is ∙ (next_unread read items before i c.loop-block-test.true small (blocks_in c.loop-block.ready) (blocks_in c.loop-block.held) c.loop-block.invariant
+            (sym w.if-contains.ensures) (blocks_in w.push-else-contains.new.self) w.push-else-contains.result w.push-else-contains.ensures.room w.push-else-contains.ensures.list).1,
+      )
+    ]
 
-pub returns-clause-kept : goal.returns-clause-kept
-returns-clause-kept c = filter-from_retain _ (λ b. among b c.args.read.now.items) _ (λ x b f' y called. search (rules, tests)) _ _ c.retain.ensures.filtered
+pub returns : goal.returns
+returns c =
+    let items = c.as_slice-block-items.result.now in
+    let read = blocks_in c.args.read.now in
+    let before = blocks_in c.args.ready.now in
+    let all = take_all c.loop-block.block-index items c.loop-block-test.false ∙ c.as_slice-block-items.ensures in
+    record {
+      freed = λ fits. c.loop-block.invariant.0 (omega (arith, fits, ap length c.as_slice-block-items.ensures)) ∙ ap (λ (xs : List ℕ). before ++ unread read xs) all;
+      kept = c.loop-block.invariant.1 ∙ ap (still_held read) all;
+    }
