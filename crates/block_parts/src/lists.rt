@@ -1,4 +1,4 @@
-ghost use Rattle.std.specs.Prelude.{◌≡◌, ◌+◌, Bool, List, [], ◌∷◌, ◌++◌, length, if◌then◌else◌, ◌==◌, nat_lt};
+ghost use Rattle.std.specs.Prelude.{◌≡◌, [], ◌∷◌, ◌++◌, length, if◌then◌else◌, ◌==◌, nat_lt};
 ghost use Rattle.block_rules.specs.Blocks.{among};
 ghost use Rattle.block_parts.specs.Lists.{blocks_in, Popped};
 

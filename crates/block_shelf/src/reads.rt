@@ -1,7 +1,7 @@
 ghost use Rattle.std.specs.Prelude.{◌≡◌, not};
 ghost use Rattle.shelf.specs.Meaning.{activity_of, link_at};
 ghost use Rattle.shelf.specs.Calls.{is_idle, is_vacant};
-ghost use Rattle.block_rules.specs.Blocks.{link, party as party_at, current_of, is_live};
+ghost use Rattle.block_rules.specs.Blocks.{link, party as party_at, current_of, channel_held, is_live};
 ghost use Rattle.block_rules.specs.Means.{means};
 ghost use Rattle.block_shelf.specs.States.{block_state};
 
@@ -10,6 +10,13 @@ use block_rules::parts::{Job, LinkState};
 use plan::check::Plan;
 use reading::kind::Reading;
 use shelf::numbering::Standing;
+
+// The channel on which a link is; 0 if it is on none, as the rules say.
+pub(crate) fn channel_of(hold: Option<u8>) -> u8
+    ensures { result ≡ channel_held hold }
+{
+    hold.unwrap_or(0)
+}
 
 impl<'a, R: Reading> BlockShelf<'a, R> {
     // What a party is at; idle if there is no such party.
@@ -35,12 +42,12 @@ impl<'a, R: Reading> BlockShelf<'a, R> {
         self.current.get(channel as usize).copied().unwrap_or(0)
     }
 
-    // Whether the current block of the link's channel is the one that the link saw. (0 for no channel, as the rules say.)
+    // Whether the current block of the link's channel is the one that the link saw.
     pub(crate) fn is_live(&self, at: usize) -> bool
         ensures { result ≡ is_live (block_state self.now) at }
     {
         let link = self.link(at);
-        self.current(link.hold.unwrap_or(0)) == link.seen
+        self.current(channel_of(link.hold)) == link.seen
     }
 }
 

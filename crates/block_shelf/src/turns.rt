@@ -7,6 +7,7 @@ ghost use Rattle.block_rules.specs.declared.parts.Access.TheVariants.{Compare};
 ghost use Rattle.block_shelf.specs.States.{block_state};
 
 use crate::block::BlockShelf;
+use crate::reads::channel_of;
 use block_rules::parts::{Access, Job, LinkState};
 use reading::kind::Reading;
 use shelf::answer::Answer;
@@ -110,7 +111,7 @@ impl<'a, R: Reading> BlockShelf<'a, R> {
             self.seats[party as usize].miss(block);
             return Answer::Missed;
         }
-        self.current[link.hold.unwrap_or(0) as usize] = block;
+        self.current[channel_of(link.hold) as usize] = block;
         self.seats[party as usize].retire(at, link.seen)
     }
 

@@ -32,6 +32,7 @@ impl<'a, R: Reading> FlagShelf<'a, R> {
         ensures lent { IfOk result (λ s. s.row.blocks.ghost_name ≡ row.entry.blocks.ghost_name) }
         ensures succeeds { (n : ℕ) → refused n ≡ plan_verdict plan Flag (length row.entry.blocks.now) → is_ok result ≡ true }
     {
+        // the plan of no parties, written out: its zeros are what a planted error changes
         let none = Plan {
             parties: 0,
             links: 0,

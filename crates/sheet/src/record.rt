@@ -28,7 +28,6 @@ fn read_amendment(bits: &mut BitReader) -> Result<Record, Fault>
 }
 
 // As many channels as were counted.
-#[tactic(auto, using(crate::proofs::Records::channel_read))]
 fn read_channels(bits: &mut BitReader, count: usize) -> Result<ChannelList, Fault>
     requires { count < 8 }
     ensures { Reads channels_of (channels_format count []) result bits.old bits.new }

@@ -16,17 +16,17 @@ returns-then-not-is_live-clause-shelf g c =
 pub index_mut-requires-2 : goal.index_mut-requires-2
 index_mut-requires-2 g c =
     let v = c.args.self.now in
-    omega (arith, put_channel v c.args.party c.args.at c.args.block c.requires, c.unwrap_or.ensures ∙ ap (λ (l : LinkState). channel_held l.hold) c.link-link.ensures, v.current.ok.0)
+    omega (arith, put_channel v c.args.party c.args.at c.args.block c.requires, c.channel_of.ensures ∙ ap (λ (l : LinkState). channel_held l.hold) c.link-link.ensures, v.current.ok.0)
 
 pub invariant_of-self-2 : goal.invariant_of-self-2
 invariant_of-self-2 g c =
-    let channel = c.unwrap_or.ensures ∙ ap (λ (l : LinkState). channel_held l.hold) c.link-link.ensures in
+    let channel = c.channel_of.ensures ∙ ap (λ (l : LinkState). channel_held l.hold) c.link-link.ensures in
     let seen = ap (λ (l : LinkState). l.seen) c.link-link.ensures in record {
       sound = stored_sound c.args.self.now c.args.party c.index_mut-3.result.now c.retire.new.self c.index_mut-3.ensures.value c.args.at c.args.block c.requires _ _ channel seen c.retire.ensures.party c.if-not-is_live.ensures;
     }
 
 pub returns-clause-shelf : goal.returns-clause-shelf
 returns-clause-shelf g c =
-    let channel = c.unwrap_or.ensures ∙ ap (λ (l : LinkState). channel_held l.hold) c.link-link.ensures in
+    let channel = c.channel_of.ensures ∙ ap (λ (l : LinkState). channel_held l.hold) c.link-link.ensures in
     let seen = ap (λ (l : LinkState). l.seen) c.link-link.ensures in
     stored_is c.args.self.now c.args.party c.index_mut-3.result.now c.retire.new.self c.index_mut-3.ensures.value c.args.at c.args.block c.requires _ _ channel seen c.retire.ensures.party c.if-not-is_live.ensures
